@@ -1,0 +1,4 @@
+pub mod AddressLemmas
+pub mod CutLemmas
+pub mod MaskLemmas
+pub mod SetLemmas

@@ -1,0 +1,36 @@
+-- Arcs: one direction of a link, its two ends, and whether it is up.
+use Rattle.std.specs.Prelude.{ℕ, ◌&&◌, Bool, true, false, not, List, Option, option_map, slice_get}
+use Rattle.std.specs.Option.{option_map_or}
+use Rattle.net_types.specs.declared.arcs.Arc.{Arc}
+use Rattle.net_types.specs.declared.network.Link.{Link}
+use Rattle.net_types.specs.declared.network.End.{End}
+use Rattle.net_types.specs.FailSets.{holds}
+use Rattle.net_types.specs.NetValue.{NetValue}
+
+-- the end that a direction of the link begins at, and the one that it goes to
+abbrev pub from_end : Bool → Link → End
+from_end false link = link.low
+from_end true link = link.high
+
+abbrev pub to_end : Bool → Link → End
+to_end false link = link.high
+to_end true link = link.low
+
+-- the link of an arc, where there is such a link
+abbrev pub link_of : NetValue → Arc → Option Link
+link_of net arc = slice_get net.links arc.link
+
+-- the router that an arc begins at, and the one that it goes to: in BGP its sender and its receiver
+abbrev pub sender_of : NetValue → Arc → Option ℕ
+sender_of net arc = option_map (λ link. (from_end arc.down link).router) (link_of net arc)
+
+abbrev pub receiver_of : NetValue → Arc → Option ℕ
+receiver_of net arc = option_map (λ link. (to_end arc.down link).router) (link_of net arc)
+
+-- the arc is of a session
+abbrev pub is_session : NetValue → Arc → Bool
+is_session net arc = option_map_or (λ link. link.session) (link_of net arc) false
+
+-- the arc is up: it is of a session, and its link has not failed
+abbrev pub is_up : NetValue → List ℕ → Arc → Bool
+is_up net failed arc = is_session net arc && not (holds failed arc.link)

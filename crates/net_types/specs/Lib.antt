@@ -1,0 +1,16 @@
+pub mod Sets
+pub mod Cut
+pub mod Numerals
+pub mod Order
+pub mod PrefixValue
+pub mod Masks
+pub mod Addresses
+pub mod Prefixes
+pub mod FailSets
+pub mod NetValue
+pub mod Owners
+pub mod NetFacts
+pub mod Arcs
+pub mod Distance
+pub mod Better
+pub mod ConfigFacts

@@ -1,0 +1,42 @@
+//! The words of the project: what a router's configuration, a network, a route and a refusal are.
+//!
+//! Decides: how addresses, prefixes and numbers are read from text, which prefix covers which, and
+//! what is true of every network (`specs/NetworkFacts.antt`). What a file means, `frr_reader` decides.
+//! Stands on: nothing of the project.
+//! Promises: each reading answers exactly for the texts that are written so, and a `Net` keeps its
+//! validity. Not: that a network came from any file.
+#![tactic(auto)]
+
+mod addresses;
+mod arcs;
+mod bits;
+mod config;
+mod cuts;
+mod fail_sets;
+mod lists;
+mod network;
+mod numbers;
+mod prefixes;
+mod refusals;
+mod routes;
+mod texts;
+
+pub use addresses::{read_address, read_interface};
+pub use arcs::Arc;
+pub use bits::Bits64;
+pub use config::{
+    BgpConfig, CommunityEntry, CommunityList, Interface, MapEntry, Neighbor, Origin, PrefixEntry,
+    PrefixList, Redistribute, RouteMap, RouterConfig, SetCommunity, Sets, SourceFile,
+};
+pub use cuts::cut;
+pub use fail_sets::FailSet;
+pub use lists::List;
+pub use network::{
+    End, Link, Net, NetCommunityEntry, NetCommunityList, NetMap, NetMapEntry, NetSetCommunity,
+    NetSets, Notice, Owned, Policy, Router,
+};
+pub use numbers::read_number;
+pub use prefixes::Prefix;
+pub use refusals::{BundleRefusal, FormRefusal, NetRefusal, ReadRefusal};
+pub use routes::{Route, Source};
+pub use texts::Text;
