@@ -1,7 +1,6 @@
 -- A text of too many parts is no address and no interface.
-use Rattle.std.proofs.Common.{ℕ, ◌≡◌, List, [], ◌∷◌, Option, None, refl, ap, ◌∙◌, sym}
+use Rattle.std.proofs.Common.{ℕ, ◌≡◌, List, ◌∷◌, None, ap, ◌∙◌, sym}
 use Rattle.net_types.specs.Cut.{parts}
-use Rattle.net_types.specs.PrefixValue.{PrefixValue}
 use Rattle.net_types.specs.Addresses.{address_of, address_of_parts, interface_of, interface_of_parts}
 use Rattle.net_types.proofs.CutLemmas.{first_part}
 

@@ -1,6 +1,6 @@
 -- Where a text is cut: what stands before the first such byte, and behind it.
-use Rattle.std.proofs.Common.{ℕ, ◌≡◌, ◌<◌, ◌≤◌, ◌+◌, ◌-◌, ◌==◌, Bool, true, false, List, [], ◌∷◌, length, take, drop, arith, ap, refl, ◌∙◌, sym}
-use Rattle.std.specs.List.{position_or_len, slice_split, onto_first}
+use Rattle.std.proofs.Common.{ℕ, ◌≡◌, ◌<◌, ◌≤◌, ◌+◌, ◌-◌, ◌==◌, Bool, true, false, List, [], ◌∷◌, length, take, drop, arith, ap, refl, ◌∙◌}
+use Rattle.std.specs.List.{position_or_len, onto_first}
 use Rattle.std.proofs.lemmas.List.{take_rest}
 use Rattle.std.proofs.lemmas.List.Splits.{slice_split_first, slice_split-cons_no, slice_split-cons_yes}
 use Rattle.net_types.specs.Cut.{parts}

@@ -1,5 +1,5 @@
 -- IPv4 addresses as they are written: four decimals from 0 to 255 between points.
-use Rattle.std.specs.Prelude.{ℕ, ◌+◌, ◌*◌, List, [], ◌∷◌, Option, Some, None, option_and_then, option_map}
+use Rattle.std.specs.Prelude.{ℕ, ◌+◌, ◌*◌, List, [], ◌∷◌, Option, Some, None, option_and_then}
 use Rattle.net_types.specs.Cut.{parts}
 use Rattle.net_types.specs.Numerals.{number_in}
 use Rattle.net_types.specs.PrefixValue.{PrefixValue}

@@ -1,11 +1,10 @@
 -- Which of two routes is better: the first step that sees a difference decides, else both may be taken.
 -- Local preference, length of the path, origin and MED are after RFC 4271, 9.1.1 and 9.1.2.2, a to c.
 -- Weight, local before learned, MED of one sending router alone and the open tie are this project's own.
-use Rattle.std.specs.Prelude.{ℕ, ◌==◌, if◌then◌else◌, Bool, true, false, List, [], ◌∷◌, length, Option, Some, None}
+use Rattle.std.specs.Prelude.{ℕ, ◌==◌, if◌then◌else◌, Bool, false, List, [], ◌∷◌, length, Option, Some}
 use Rattle.std.specs.declared.cmp.Ordering.{Ordering}
-use Rattle.std.specs.declared.cmp.Ordering.TheVariants.{Less, Equal, Greater}
+use Rattle.std.specs.declared.cmp.Ordering.TheVariants.{Equal}
 use Rattle.std.specs.Ordering.{is_lt, nat_cmp, ordering_then}
-use Rattle.net_types.specs.declared.arcs.Arc.{Arc}
 use Rattle.net_types.specs.declared.config.Origin.{Origin}
 use Rattle.net_types.specs.declared.config.Origin.TheVariants.{Igp, Egp, Incomplete}
 use Rattle.net_types.specs.declared.routes.Source.{Source}

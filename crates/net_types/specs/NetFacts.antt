@@ -1,5 +1,5 @@
 -- What is true of every network.
-use Rattle.std.specs.Prelude.{ℕ, ◌≡◌, ◌≢◌, ◌<◌, ◌≤◌, ◌^◌, Bool, true, List, [], length, Option, Some, None, IfSome, All, AllPairs, Contains, slice_get}
+use Rattle.std.specs.Prelude.{ℕ, ◌≡◌, ◌≢◌, ◌<◌, ◌≤◌, ◌^◌, true, List, length, Option, IfSome, All, AllPairs, Contains, slice_get}
 use Rattle.std.specs.Option.{option_map_or}
 use Rattle.net_types.specs.declared.config.PrefixList.{PrefixList}
 use Rattle.net_types.specs.declared.config.PrefixEntry.{PrefixEntry}
@@ -17,7 +17,7 @@ use Rattle.net_types.specs.declared.network.NetMapEntry.{NetMapEntry}
 use Rattle.net_types.specs.declared.network.NetSets.{NetSets}
 use Rattle.net_types.specs.declared.network.NetSetCommunity.{NetSetCommunity}
 use Rattle.net_types.specs.declared.network.NetSetCommunity.TheVariants.{Keep, Replace, Add, Clear}
-use Rattle.net_types.specs.PrefixValue.{PrefixValue, IsPrefix}
+use Rattle.net_types.specs.PrefixValue.{IsPrefix}
 use Rattle.net_types.specs.Prefixes.{prefix_before}
 use Rattle.net_types.specs.Order.{text_before}
 use Rattle.net_types.specs.Sets.{has}

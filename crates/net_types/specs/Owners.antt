@@ -2,7 +2,6 @@
 use Rattle.std.specs.Prelude.{ℕ, Bool, false, List, Option, slice_get, option_and_then, find}
 use Rattle.std.specs.List.{list_any}
 use Rattle.std.specs.Option.{option_map_or}
-use Rattle.net_types.specs.declared.network.Router.{Router}
 use Rattle.net_types.specs.declared.network.Owned.{Owned}
 use Rattle.net_types.specs.PrefixValue.{PrefixValue}
 use Rattle.net_types.specs.Prefixes.{same_prefix}

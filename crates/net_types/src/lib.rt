@@ -15,6 +15,7 @@ mod cuts;
 mod fail_sets;
 mod lists;
 mod network;
+mod no_memory;
 mod numbers;
 mod prefixes;
 mod refusals;
@@ -35,6 +36,7 @@ pub use network::{
     End, Link, Net, NetCommunityEntry, NetCommunityList, NetMap, NetMapEntry, NetSetCommunity,
     NetSets, Notice, Owned, Policy, Router,
 };
+pub use no_memory::NoMemory;
 pub use numbers::read_number;
 pub use prefixes::Prefix;
 pub use refusals::{BundleRefusal, FormRefusal, NetRefusal, ReadRefusal};
