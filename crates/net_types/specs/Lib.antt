@@ -1,6 +1,7 @@
 pub mod Sets
 pub mod Cut
 pub mod Numerals
+pub mod Names
 pub mod Order
 pub mod PrefixValue
 pub mod Masks

@@ -14,6 +14,7 @@ mod config;
 mod cuts;
 mod fail_sets;
 mod lists;
+mod names;
 mod network;
 mod no_memory;
 mod numbers;
@@ -32,6 +33,7 @@ pub use config::{
 pub use cuts::cut;
 pub use fail_sets::FailSet;
 pub use lists::List;
+pub use names::{is_host, is_name};
 pub use network::{
     End, Link, Net, NetCommunityEntry, NetCommunityList, NetMap, NetMapEntry, NetSetCommunity,
     NetSets, Notice, Owned, Policy, Router,
