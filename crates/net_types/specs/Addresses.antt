@@ -1,4 +1,4 @@
--- IPv4 addresses as they are written: four decimals from 0 to 255 between points.
+-- IPv4 addresses and prefixes as they are read: four decimals from 0 to 255 between points.
 use Rattle.std.specs.Prelude.{ℕ, ◌+◌, ◌*◌, List, [], ◌∷◌, Option, Some, None, option_and_then}
 use Rattle.net_types.specs.Cut.{parts}
 use Rattle.net_types.specs.Numerals.{number_in}

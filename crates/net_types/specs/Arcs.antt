@@ -31,6 +31,6 @@ receiver_of net arc = option_map (λ link. (to_end arc.down link).router) (link_
 abbrev pub is_session : NetValue → Arc → Bool
 is_session net arc = option_map_or (λ link. link.session) (link_of net arc) false
 
--- the arc is up: it is of a session, and its link has not failed
+-- the arc is up in BGP: it is of a session, and its link has not failed
 abbrev pub is_up : NetValue → List ℕ → Arc → Bool
 is_up net failed arc = is_session net arc && not (holds failed arc.link)

@@ -1,4 +1,4 @@
--- What is true of every configuration that is read from a file.
+-- What is true of every configuration that is read from a file, as far as building a network needs it.
 use Rattle.std.specs.Prelude.{ℕ, ◌≡◌, ◌≢◌, ◌<◌, ◌≤◌, ◌^◌, Bool, true, List, length, Option, IfSome, IsSomeAnd, All, AllPairs}
 use Rattle.std.specs.List.{list_any}
 use Rattle.net_types.specs.declared.config.RouterConfig.{RouterConfig}
@@ -32,11 +32,12 @@ pub record IsCost (cost : ℕ) : Type 0 where
   pub least : 1 ≤ cost
   pub most : cost ≤ 65535
 
+-- an interface's address and cost
 pub record IsInterface (interface : Interface) : Type 0 where
   pub address : IfSome interface.address IsAddressed
   pub cost : IfSome interface.cost IsCost
 
--- a community list of this name has an entry; likewise a prefix list and a map
+-- the configuration has a prefix list, a community list, a map of this name
 abbrev pub has_prefix_list : RouterConfig → List ℕ → Bool
 has_prefix_list config name = list_any (λ (l : PrefixList). same_text l.name name) config.prefix_lists
 
@@ -89,6 +90,7 @@ pub record IsMap (config : RouterConfig) (map : RouteMap) : Type 0 where
   pub ascending : AllPairs (λ (a b : MapEntry). a.seq < b.seq) map.entries
   pub entries : All (IsMapEntry config) map.entries
 
+-- a neighbor of the configuration's BGP, whose maps are there
 pub record IsNeighbor (config : RouterConfig) (neighbor : Neighbor) : Type 0 where
   pub address : neighbor.address < 2 ^ 32
   pub asn : neighbor.asn < 2 ^ 32
@@ -100,6 +102,7 @@ IsRedistribute config No = Unit {0}
 IsRedistribute config Plain = Unit {0}
 IsRedistribute config (By name) = has_map config name ≡ true
 
+-- the BGP part of the configuration: an AS number of at least 1, and neighbors with addresses of their own
 pub record IsBgp (config : RouterConfig) (bgp : BgpConfig) : Type 0 where
   pub least : 1 ≤ bgp.asn
   pub word : bgp.asn < 2 ^ 32
@@ -109,8 +112,8 @@ pub record IsBgp (config : RouterConfig) (bgp : BgpConfig) : Type 0 where
   pub neighbors : All (IsNeighbor config) bgp.neighbors
   pub addresses : AllPairs (λ (a b : Neighbor). a.address ≢ b.address) bgp.neighbors
 
--- what a file's configuration keeps: numbers fit, costs and addresses are in range, names are distinct
--- and defined, entries ascend, and what is prepended is the file's own AS
+-- what building a network needs of a file's configuration: numbers fit, costs and addresses are in range,
+-- named lists and maps are there, entries ascend, and what is prepended is the file's own AS
 pub record IsConfig (config : RouterConfig) : Type 0 where
   pub interfaces : All IsInterface config.interfaces
   pub ospf : IfSome config.ospf (λ prefixes. All IsPrefix prefixes)
@@ -118,3 +121,6 @@ pub record IsConfig (config : RouterConfig) : Type 0 where
   pub prefix_lists : All IsPrefixList config.prefix_lists
   pub community_lists : All IsCommunityList config.community_lists
   pub maps : All (IsMap config) config.maps
+  pub few_prefix_lists : length config.prefix_lists < 2 ^ 32
+  pub few_community_lists : length config.community_lists < 2 ^ 32
+  pub few_maps : length config.maps < 2 ^ 32

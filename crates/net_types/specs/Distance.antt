@@ -56,7 +56,7 @@ pub record IsTight (net : NetValue) (failed : List ℕ) (distances : List (Optio
 -- the arc goes from router u to its next hop v: it is tight, and u is no owner
 pub record IsHop (net : NetValue) (prefix : PrefixValue) (failed : List ℕ) (distances : List (Option ℕ)) (arc : Arc) (u v : ℕ) : Type 0 where
   pub tight : IsTight net failed distances arc u v
-  pub leaves : owns net u prefix ≡ false
+  pub no_owner : owns net u prefix ≡ false
 
 -- some arc goes from u to its next hop v
 abbrev pub HasHop : NetValue → PrefixValue → List ℕ → List (Option ℕ) → ℕ → ℕ → Type 0

@@ -7,6 +7,8 @@ pub mod PrefixValue
 pub mod Masks
 pub mod Addresses
 pub mod Prefixes
+pub mod Then
+pub mod AddressTexts
 pub mod FailSets
 pub mod NetValue
 pub mod Owners

@@ -15,7 +15,7 @@ is_owned prefix owned = list_any (λ entry. same_prefix entry.prefix prefix) own
 abbrev pub owns : NetValue → ℕ → PrefixValue → Bool
 owns net u prefix = option_map_or (λ router. is_owned prefix router.owned) (slice_get net.routers u) false
 
--- the least cost of the OSPF stubs of the prefix among what a router owns, where there is one
+-- the cost of the prefix's OSPF stub among what a router owns, where there is one: the least of such stubs
 abbrev pub stub_of : PrefixValue → List Owned → Option ℕ
 stub_of prefix owned = option_and_then (λ entry. entry.ospf_cost) (find (λ entry. same_prefix entry.prefix prefix) owned)
 

@@ -1,12 +1,13 @@
 //! The words of the project: what a router's configuration, a network, a route and a refusal are.
 //!
 //! Decides: how addresses, prefixes and numbers are read from text, which prefix covers which, and
-//! what is true of every network (`specs/NetworkFacts.antt`). What a file means, `frr_reader` decides.
+//! what is true of every network (`specs/NetFacts.antt`). What a file means, `frr_reader` decides.
 //! Stands on: nothing of the project.
 //! Promises: each reading answers exactly for the texts that are written so, and a `Net` keeps its
 //! validity. Not: that a network came from any file.
 #![tactic(auto)]
 
+mod address_texts;
 mod addresses;
 mod arcs;
 mod bits;
@@ -23,6 +24,7 @@ mod refusals;
 mod routes;
 mod texts;
 
+pub use address_texts::{address_text, prefix_text};
 pub use addresses::{read_address, read_interface};
 pub use arcs::Arc;
 pub use bits::Bits64;

@@ -5,7 +5,6 @@ ghost use Rattle.net_types.specs.Prefixes.{prefix_of, covers, overlaps, same_pre
 ghost use Rattle.net_types.specs.Masks.{masked};
 
 use crate::read_interface;
-use std::fmt;
 use std::marker::Model;
 
 /// An IPv4 prefix: the addresses whose first `len` bits are those of `bits`.
@@ -90,13 +89,5 @@ impl Prefix {
         ensures { result ≡ prefix_before self.now other.now }
     {
         self.bits < other.bits || self.bits == other.bits && self.len < other.len
-    }
-}
-
-impl fmt::Display for Prefix {
-    fn fmt<W: fmt::Write>(&self, f: &mut fmt::Formatter<W>) -> fmt::Result {
-        let (bits, len) = (self.bits, self.len);
-        let (a, b, c, d) = (bits >> 24, bits >> 16 & 255, bits >> 8 & 255, bits & 255);
-        write!(f, "{a}.{b}.{c}.{d}/{len}")
     }
 }
