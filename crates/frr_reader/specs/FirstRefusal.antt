@@ -1,0 +1,60 @@
+-- The configuration and the refusal of a file, said of the state before each line: a file is refused at
+-- the first line that is refused, and its configuration is that of the state after the last line.
+use Rattle.std.specs.Prelude.{ℕ, ◌≡◌, ◌⊎◌, ◌↔◌, ◌++◌, List, ◌∷◌, Option, Some, None, Result, Ok, Err, fold, option_and_then}
+use Rattle.net_types.specs.declared.config.RouterConfig.{RouterConfig}
+use Rattle.net_types.specs.declared.refusals.ReadRefusal.{ReadRefusal}
+use Rattle.net_types.specs.declared.refusals.ReadRefusal.TheVariants.{NoMemory}
+use Rattle.frr_reader.specs.declared.causes.Cause.{Cause}
+use Rattle.frr_reader.specs.Lines.{LineValue, lines}
+use Rattle.frr_reader.specs.State.{State, start}
+use Rattle.frr_reader.specs.Reading.{step, config_of, refusal_of, reading}
+
+abbrev pub accepted : Result State Cause → Option State
+accepted (Ok s) = Some s
+accepted (Err _) = None
+
+-- the state after these lines, where none of them is refused
+abbrev pub after : State → List LineValue → Option State
+after s ls = fold (λ before line. option_and_then (λ t. accepted (step t line)) before) (Some s) ls
+
+-- the lines are all taken, and the state after them has this configuration
+pub record IsConf (text : List ℕ) (config : RouterConfig) : Type 0 where
+  pub state : State
+  pub taken : after start (lines text) ≡ Some state
+  pub says : config_of state state.host ≡ Ok config
+
+-- the lines before this one are taken, and this one is refused, first for this cause
+pub record IsFirstRefused (text : List ℕ) (line : LineValue) (cause : Cause) : Type 0 where
+  pub before : List LineValue
+  pub behind : List LineValue
+  pub lines_are : lines text ≡ before ++ line ∷ behind
+  pub state : State
+  pub taken : after start before ≡ Some state
+  pub refused : step state line ≡ Err cause
+
+-- the file is refused at its first refused line
+pub record IsRefAtLine (text : List ℕ) (refusal : ReadRefusal) : Type 0 where
+  pub line : LineValue
+  pub cause : Cause
+  pub first : IsFirstRefused text line cause
+  pub named : refusal ≡ refusal_of cause line.number
+
+-- no line is refused, and what is missing after the last one refuses the file
+pub record IsRefAtEnd (text : List ℕ) (refusal : ReadRefusal) : Type 0 where
+  pub state : State
+  pub taken : after start (lines text) ≡ Some state
+  pub refused : config_of state state.host ≡ Err refusal
+
+abbrev pub IsRef : List ℕ → ReadRefusal → Type 0
+IsRef text refusal = IsRefAtLine text refusal ⊎ IsRefAtEnd text refusal
+
+-- each file has one of the two, a configuration or a refusal, never both, and only one; the reading says
+-- which; and want of memory is no refusal of a file
+pub record IsReadOnce (text : List ℕ) : Type 0 where
+  pub conf : (config : RouterConfig) → (reading text ≡ Ok config) ↔ IsConf text config
+  pub ref : (refusal : ReadRefusal) → (reading text ≡ Err refusal) ↔ IsRef text refusal
+  pub one : ((config : RouterConfig) × IsConf text config) ⊎ ((refusal : ReadRefusal) × IsRef text refusal)
+  pub apart : (config : RouterConfig) (refusal : ReadRefusal) → IsConf text config → IsRef text refusal → ⊥
+  pub same_conf : (a b : RouterConfig) → IsConf text a → IsConf text b → a ≡ b
+  pub same_ref : (a b : ReadRefusal) → IsRef text a → IsRef text b → a ≡ b
+  pub no_memory : IsRef text NoMemory → ⊥

@@ -1,0 +1,55 @@
+-- The values of a line: what its words behind the row's head say.
+use Rattle.std.specs.Prelude.{ℕ, Bool, true, false, ◌||◌, nat_le, List, [], ◌∷◌, codes, Option, Some, None, option_and_then, option_map, if◌then◌else◌}
+use Rattle.net_types.specs.Names.{is_host, is_name}
+use Rattle.net_types.specs.Numerals.{number_in}
+use Rattle.net_types.specs.Addresses.{interface_of}
+use Rattle.net_types.specs.PrefixValue.{PrefixValue}
+use Rattle.net_types.specs.Order.{same_text}
+
+-- HOST: the name of a host
+abbrev pub host_of : List ℕ → Option (List ℕ)
+host_of word = if is_host word then Some word else None
+
+-- NAME: the name of an interface
+abbrev pub name_of : List ℕ → Option (List ℕ)
+name_of word = if is_name word then Some word else None
+
+-- the backbone area, which is the only one: `0` or `0.0.0.0`
+abbrev pub area_of : List ℕ → Option ℕ
+area_of word = if same_text (codes "0") word || same_text (codes "0.0.0.0") word then Some 0 else None
+
+-- an OSPF cost: a number from 1 to 65535
+abbrev pub cost_of : List ℕ → Option ℕ
+cost_of word = number_in 1 65535 word
+
+abbrev pub with_a_length : ℕ × PrefixValue → Option (ℕ × PrefixValue)
+with_a_length a = if nat_le 1 a.1.len then Some a else None
+
+-- an interface's address with a length from 1 to 32, and its subnet
+abbrev pub interface_address_of : List ℕ → Option (ℕ × PrefixValue)
+interface_address_of word = option_and_then with_a_length (interface_of word)
+
+-- PFX: an address with a length from 0 to 32; its bits past the length are cleared
+abbrev pub masked_prefix_of : List ℕ → Option PrefixValue
+masked_prefix_of word = option_map (λ a. a.1) (interface_of word)
+
+-- a rest without words
+abbrev pub is_nothing : List (List ℕ) → Bool
+is_nothing [] = true
+is_nothing (_ ∷ _) = false
+
+-- the one word of a rest that has no other
+abbrev pub only : List (List ℕ) → Option (List ℕ)
+only [] = None
+only (word ∷ []) = Some word
+only (_ ∷ _ ∷ _) = None
+
+-- a rest that is one value
+abbrev pub one : {A : Type 0} → (List ℕ → Option A) → List (List ℕ) → Option A
+one value rest = option_and_then value (only rest)
+
+-- a rest that is PFX, `area` and the area
+abbrev pub network_of : List (List ℕ) → Option PrefixValue
+network_of (prefix ∷ word ∷ area ∷ []) =
+    if same_text (codes "area") word then option_and_then (λ _. masked_prefix_of prefix) (area_of area) else None
+network_of _ = None

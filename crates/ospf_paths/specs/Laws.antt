@@ -1,0 +1,52 @@
+-- What is true of the distances of every network, prefix and failure set.
+use Rattle.std.specs.Prelude.{ℕ, ◌≡◌, ◌<◌, ◌^◌, ◌∷◌, false, List, Option, Some, All}
+use Rattle.net_types.specs.declared.arcs.Arc.{Arc}
+use Rattle.net_types.specs.Distance.{IsWalk, AreDistances, distance_at, IsTight, HasHop}
+use Rattle.net_types.specs.NetFacts.{IsNet}
+use Rattle.net_types.specs.NetValue.{NetValue}
+use Rattle.net_types.specs.Owners.{owns}
+use Rattle.net_types.specs.PrefixValue.{PrefixValue}
+
+-- a router with a distance that is no owner has a next hop
+abbrev pub FarRoutersHop : Type 0
+FarRoutersHop =
+    (net : NetValue) (prefix : PrefixValue) (failed : List ℕ) (distances : List (Option ℕ)) → IsNet net → AreDistances net prefix failed distances →
+    (u distance : ℕ) → distance_at distances u ≡ Some distance → owns net u prefix ≡ false →
+    (v : ℕ) × HasHop net prefix failed distances u v
+
+-- a tight arc, and so one to a next hop, goes to a router that is nearer
+abbrev pub TightArcsApproach : Type 0
+TightArcsApproach =
+    (net : NetValue) (failed : List ℕ) (distances : List (Option ℕ)) (arc : Arc) (u v near far : ℕ) → IsNet net →
+    IsTight net failed distances arc u v → distance_at distances u ≡ Some near → distance_at distances v ≡ Some far →
+    far < near
+
+-- the arc is tight
+abbrev pub IsTightArc : NetValue → List ℕ → List (Option ℕ) → Arc → Type 0
+IsTightArc net failed distances arc = (u : ℕ) × (v : ℕ) × IsTight net failed distances arc u v
+
+-- after the first arc of a least walk, which is tight, there is a least walk again
+abbrev pub LeastWalksGoOn : Type 0
+LeastWalksGoOn =
+    (net : NetValue) (prefix : PrefixValue) (failed : List ℕ) (distances : List (Option ℕ)) → IsNet net → AreDistances net prefix failed distances →
+    (arc : Arc) (arcs : List Arc) (u distance : ℕ) → IsWalk net prefix failed (arc ∷ arcs) u distance → distance_at distances u ≡ Some distance →
+    (v : ℕ) × (rest : ℕ) × IsTight net failed distances arc u v × IsWalk net prefix failed arcs v rest × (distance_at distances v ≡ Some rest)
+
+-- so all arcs of a least walk are tight
+abbrev pub LeastWalksAreTight : Type 0
+LeastWalksAreTight =
+    (net : NetValue) (prefix : PrefixValue) (failed : List ℕ) (distances : List (Option ℕ)) → IsNet net → AreDistances net prefix failed distances →
+    (arcs : List Arc) (u distance : ℕ) → IsWalk net prefix failed arcs u distance → distance_at distances u ≡ Some distance →
+    All (IsTightArc net failed distances) arcs
+
+-- one network, prefix and failure set has one list of distances
+abbrev pub DistancesAreOne : Type 0
+DistancesAreOne =
+    (net : NetValue) (prefix : PrefixValue) (failed : List ℕ) (a b : List (Option ℕ)) →
+    AreDistances net prefix failed a → AreDistances net prefix failed b → a ≡ b
+
+-- each distance is below 2 ^ 32
+abbrev pub DistancesAreSmall : Type 0
+DistancesAreSmall =
+    (net : NetValue) (prefix : PrefixValue) (failed : List ℕ) (distances : List (Option ℕ)) → IsNet net → AreDistances net prefix failed distances →
+    (u distance : ℕ) → distance_at distances u ≡ Some distance → distance < 2 ^ 32

@@ -1,0 +1,4 @@
+pub mod SinkLemmas
+pub mod PathLemmas
+pub mod EntryLemmas
+pub mod ListingLemmas

@@ -1,0 +1,7 @@
+pub mod Faults
+pub mod Content
+pub mod Entries
+pub mod Calls
+pub mod Shelf
+pub mod Sink
+pub mod Memory

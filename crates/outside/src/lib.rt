@@ -1,0 +1,28 @@
+//! The outside: where the files come from, and where the reports go.
+//!
+//! Decides: what is known of every shelf of files and of every sink of bytes, and what the ones in
+//! memory answer. A shelf or a sink counts its faults, and may tell what it holds.
+//! Stands on: `net_types` alone.
+//! Promises: a call fails only where the count of faults rose in it, what is told is so, and the
+//! objects in memory answer exactly. Not: that a real folder or a real sink holds what its calls say.
+#![tactic(auto)]
+
+mod calls;
+mod dir_shelf;
+mod entries;
+mod mem_shelf;
+mod mem_sink;
+mod out_sink;
+mod paths;
+mod shelf;
+mod sink;
+#[cfg(test)]
+mod tests;
+
+pub use calls::Calls;
+pub use dir_shelf::DirShelf;
+pub use mem_shelf::MemShelf;
+pub use mem_sink::MemSink;
+pub use out_sink::OutSink;
+pub use shelf::{Shelf, ShelfError};
+pub use sink::{Failed, Sink, give_all};

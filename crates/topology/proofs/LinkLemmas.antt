@@ -1,0 +1,99 @@
+-- What is true of each link: its ends, and that links ascend by subnet.
+use Rattle.std.proofs.Common.{ℕ, ◌≡◌, ◌+◌, ◌≤◌, ◌<◌, ◌^◌, Bool, true, false, cond, ltb, List, [], ◌∷◌, length, map, refl, sym, arith, All, AllPairs}
+use Rattle.std.specs.List.{AllByRecursion, filter_map, filter}
+use Rattle.std.specs.Option.{IfSome}
+use Rattle.std.specs.Prelude.{Option, Some, None}
+use Rattle.std.proofs.lemmas.Bool.Decides.{nat_tests}
+use Rattle.std.proofs.lemmas.List.Elements.{All-from_recursion}
+use Rattle.net_types.specs.PrefixValue.{PrefixValue, IsPrefix}
+use Rattle.net_types.specs.Prefixes.{same_prefix, prefix_before}
+use Rattle.net_types.specs.NetFacts.{IsLink, IsEnd}
+use Rattle.net_types.specs.declared.network.Link.{Link}
+use Rattle.net_types.specs.declared.network.Router.{Router}
+use Rattle.topology.specs.declared.interfaces.Port.{Port}
+use Rattle.topology.specs.declared.groups.Group.{Group}
+use Rattle.topology.specs.declared.groups.Group.TheVariants.{Alone, Joined, Shared}
+use Rattle.topology.specs.declared.groups.Wire.{Wire}
+use Rattle.topology.specs.Ascending.{ascending_prefixes}
+use Rattle.topology.specs.Live.{can_link}
+use Rattle.topology.specs.Groups.{group, is_in, joined, kind_of, kind_at, subnets_of, wire_of, wires, link_of, links, end_of, IsNumbered}
+use Rattle.topology.proofs.RisingLemmas.{Rises, AllByRecursion-weaker, All-filter, All-map, All-filter_map, All-ascending, Rises-ascending, Rises-filter_map, Rises-map, AllPairs-from_rises}
+use Rattle.topology.proofs.OrderLaws.{prefix_order}
+use Rattle.topology.proofs.PortLemmas.{IsPort}
+
+-- a pair of interfaces, the one at the lower router first
+record IsJoined (count : ℕ) (low high : Port) : Type 0 where
+  lower : IsPort count low
+  higher : IsPort count high
+  order : low.router < high.router
+
+abbrev IsGroup : ℕ → Group → Type 0
+IsGroup count Alone = Unit {0}
+IsGroup count (Joined low high) = IsJoined count low high
+IsGroup count Shared = Unit {0}
+
+-- the two interfaces of a link
+record IsWire (count : ℕ) (wire : Wire) : Type 0 where
+  subnet : IsPrefix wire.subnet
+  ends : IsJoined count wire.low wire.high
+
+IsGroup-joined : (count : ℕ) (a b : Port) → IsPort count a → IsPort count b → IsGroup count (joined a b)
+IsGroup-joined count a b p q = go (ltb a.router b.router) refl (ltb b.router a.router) refl where
+  go : (s : Bool) → ltb a.router b.router ≡ s → (t : Bool) → ltb b.router a.router ≡ t → IsGroup count (cond s (Joined a b) (cond t (Joined b a) Shared))
+  go true e t f = record { lower = p; higher = q; order = grind (arith, nat_tests) }
+  go false e true f = record { lower = q; higher = p; order = grind (arith, nat_tests) }
+  go false e false f = tt
+
+IsGroup-kind_of : (count : ℕ) (ports : List Port) → AllByRecursion (IsPort count) ports → IsGroup count (kind_of ports)
+IsGroup-kind_of count [] a = tt
+IsGroup-kind_of count (p ∷ []) a = tt
+IsGroup-kind_of count (p ∷ q ∷ []) a = IsGroup-joined count p q a.0 a.1.0
+IsGroup-kind_of count (p ∷ q ∷ r ∷ ports) a = tt
+
+IsWire-wire_of : (count : ℕ) (subnet : PrefixValue) (kind : Group) → IsPrefix subnet → IsGroup count kind → IfSome (wire_of subnet kind) (IsWire count)
+IsWire-wire_of count subnet Alone p g = tt
+IsWire-wire_of count subnet (Joined low high) p g = record { subnet = p; ends = g }
+IsWire-wire_of count subnet Shared p g = tt
+
+subnet-wire_of : (subnet : PrefixValue) (kind : Group) → IfSome (wire_of subnet kind) (λ wire. wire.subnet ≡ subnet)
+subnet-wire_of subnet Alone = tt
+subnet-wire_of subnet (Joined low high) = refl
+subnet-wire_of subnet Shared = tt
+
+IsPrefix-subnets_of : (count : ℕ) (ports : List Port) → AllByRecursion (IsPort count) ports → AllByRecursion IsPrefix (subnets_of ports)
+IsPrefix-subnets_of count ports a =
+    let ends = All-filter (λ port. can_link port.loopback port.subnet) (IsPort count) ports a in
+    All-ascending IsPrefix same_prefix prefix_before (map (λ port. port.subnet) (filter (λ port. can_link port.loopback port.subnet) ports))
+    (All-map (λ port. port.subnet) IsPrefix (filter (λ port. can_link port.loopback port.subnet) ports)
+    (AllByRecursion-weaker (IsPort count) (λ port. IsPrefix port.subnet) (λ port p. p.subnet) (filter (λ port. can_link port.loopback port.subnet) ports) ends))
+
+IsWire-wires : (count : ℕ) (ports : List Port) → AllByRecursion (IsPort count) ports → AllByRecursion (IsWire count) (wires ports)
+IsWire-wires count ports a =
+    All-filter_map (λ subnet. wire_of subnet (kind_at ports subnet)) IsPrefix (IsWire count)
+    (λ subnet p. IsWire-wire_of count subnet (kind_at ports subnet) p (IsGroup-kind_of count (group ports subnet) (All-filter (λ port. is_in subnet port) (IsPort count) ports a)))
+    (subnets_of ports) (IsPrefix-subnets_of count ports a)
+
+-- the routers of both ends of each link have numbers below 64, where there are at most 64 routers
+pub IsNumbered-wires : (count : ℕ) (ports : List Port) → count ≤ 64 → AllByRecursion (IsPort count) ports → All IsNumbered (wires ports)
+IsNumbered-wires count ports few a =
+    All-from_recursion IsNumbered (wires ports) (AllByRecursion-weaker (IsWire count) IsNumbered (λ wire w. record { low = omega (arith, w.ends.lower.router); high = omega (arith, w.ends.higher.router) }) (wires ports) (IsWire-wires count ports a))
+
+IsEnd-end_of : (routers : List Router) (count : ℕ) (port : Port) → count ≤ length routers → IsPort count port → IsEnd routers (end_of port)
+IsEnd-end_of routers count port l p = record { router = omega (arith, p.router); address = p.address; least = p.least; most = p.most; «import» = tt; «export» = tt }
+
+pub IsLink-links : (routers : List Router) (count : ℕ) (ports : List Port) → count ≤ length routers → AllByRecursion (IsPort count) ports → All (IsLink routers) (links ports)
+IsLink-links routers count ports l a =
+    All-from_recursion (IsLink routers) (links ports) (All-map (λ wire. link_of wire) (IsLink routers) (wires ports)
+    (AllByRecursion-weaker (IsWire count) (λ wire. IsLink routers (link_of wire)) (λ wire w. record {
+      subnet = w.subnet;
+      low = IsEnd-end_of routers count wire.low l w.ends.lower;
+      high = IsEnd-end_of routers count wire.high l w.ends.higher;
+      order = w.ends.order;
+    }) (wires ports) (IsWire-wires count ports a)))
+
+pub subnets-links : (ports : List Port) → AllPairs (λ (a b : Link). prefix_before a.subnet b.subnet ≡ true) (links ports)
+subnets-links ports =
+    AllPairs-from_rises (λ a b. prefix_before a.subnet b.subnet) (links ports)
+    (Rises-map (λ wire. link_of wire) (λ a b. prefix_before a.subnet b.subnet) (wires ports)
+    (Rises-filter_map (λ subnet. wire_of subnet (kind_at ports subnet)) (λ wire. wire.subnet) prefix_before (λ subnet. subnet-wire_of subnet (kind_at ports subnet)) (subnets_of ports)
+    (Rises-ascending same_prefix prefix_before prefix_order (map (λ port. port.subnet) (filter (λ port. can_link port.loopback port.subnet) ports)))))

@@ -1,0 +1,52 @@
+-- The orders of prefixes and of hosts.
+use Rattle.std.proofs.Common.{ℕ, ◌≡◌, ◌<◌, ◌≤◌, ◌&&◌, ◌||◌, Bool, true, false, List, refl, ap, sym, ◌∙◌, arith, nat_eq}
+use Rattle.std.proofs.lemmas.Bool.{false≢true}
+use Rattle.std.proofs.lemmas.Bool.Decides.{nat_tests}
+use Rattle.std.proofs.lemmas.Cmp.{nat_list_cmp_total, same_from_slice_cmp}
+use Rattle.std.specs.Cmp.Lexicographic.{slice_cmp, pointwise}
+use Rattle.std.specs.Ordering.{is_lt, is_eq, nat_cmp, ordering_reverse}
+use Rattle.std.specs.declared.cmp.Ordering.{Ordering}
+use Rattle.std.specs.declared.cmp.Ordering.TheVariants.{Less, Equal, Greater}
+use Rattle.net_types.specs.PrefixValue.{PrefixValue}
+use Rattle.net_types.specs.Prefixes.{same_prefix, prefix_before}
+use Rattle.net_types.specs.declared.config.RouterConfig.{RouterConfig}
+use Rattle.net_types.specs.Order.{same_text, text_before}
+use Rattle.topology.specs.Live.{same_host, host_before}
+use Rattle.topology.proofs.RisingLemmas.{IsOrder}
+
+prefix_trans : (a b c d e f : ℕ) → prefix_before (record { bits = a; len = b }) (record { bits = c; len = d }) ≡ true → prefix_before (record { bits = c; len = d }) (record { bits = e; len = f }) ≡ true → prefix_before (record { bits = a; len = b }) (record { bits = e; len = f }) ≡ true
+prefix_trans a b c d e f h k = grind (arith, nat_tests)
+
+prefix_total : (a b c d : ℕ) → prefix_before (record { bits = a; len = b }) (record { bits = c; len = d }) ≡ false → same_prefix (record { bits = c; len = d }) (record { bits = a; len = b }) ≡ false → prefix_before (record { bits = c; len = d }) (record { bits = a; len = b }) ≡ true
+prefix_total a b c d h k = grind (arith, nat_tests)
+
+pub prefix_order : IsOrder same_prefix prefix_before
+prefix_order = record {
+  trans = λ x y z h k. prefix_trans x.bits x.len y.bits y.len z.bits z.len h k;
+  total = λ x y h k. prefix_total x.bits x.len y.bits y.len h k;
+}
+
+less_from : (o : Ordering) → is_lt o ≡ true → o ≡ Less
+less_from Less h = refl
+less_from Equal h = absurd (false≢true h)
+less_from Greater h = absurd (false≢true h)
+
+less_back : (o p : Ordering) → o ≡ ordering_reverse p → is_lt p ≡ false → is_eq o ≡ false → is_lt o ≡ true
+less_back o Less e h k = absurd (false≢true (sym h))
+less_back o Equal e h k = absurd (false≢true (sym k ∙ ap is_eq e))
+less_back o Greater e h k = rw e refl
+
+same_tests : (xs ys : List ℕ) → is_eq (slice_cmp nat_cmp xs ys) ≡ pointwise nat_eq xs ys
+same_tests xs ys = same_from_slice_cmp nat_cmp is_eq (λ a b. pointwise nat_eq a b) refl (λ _ _. refl) (λ _ _. refl) (λ x y xs ys o h. grind (arith, nat_tests)) xs ys (slice_cmp nat_cmp xs ys) refl
+
+pub text_order : IsOrder same_text text_before
+text_order = record {
+  trans = λ x y z h k. rw (nat_list_cmp_total.trans x y z (less_from (slice_cmp nat_cmp x y) h) (less_from (slice_cmp nat_cmp y z) k)) refl;
+  total = λ x y h k. less_back (slice_cmp nat_cmp y x) (slice_cmp nat_cmp x y) (nat_list_cmp_total.antisymm y x) h (same_tests y x ∙ k);
+}
+
+pub host_order : IsOrder same_host host_before
+host_order = record {
+  trans = λ x y z h k. text_order.trans x.host y.host z.host h k;
+  total = λ x y h k. text_order.total x.host y.host h k;
+}

@@ -1,0 +1,7 @@
+pub mod Ascending
+pub mod Pairs
+pub mod Live
+pub mod Groups
+pub mod Owning
+pub mod Network
+pub mod Bundle
