@@ -1,5 +1,5 @@
 -- What every network says of an arc that is crossed and of the cost of a stub.
-use Rattle.std.proofs.Common.{ℕ, ◌≡◌, ◌<◌, ◌≤◌, Bool, true, false, List, [], ◌∷◌, length, map, Option, Some, None, IfSome, All, slice_get, slice_index_or, get_or, unwrap_or, option_map, option_and_then, find, arith, ap, sym, subst, ◌∙◌, refl}
+use Rattle.std.proofs.Common.{ℕ, ◌≡◌, ◌<◌, ◌≤◌, Bool, true, false, List, [], ◌∷◌, length, Option, Some, None, IfSome, All, slice_get, unwrap_or, option_map, option_and_then, ap, sym, subst, ◌∙◌, refl}
 use Rattle.std.proofs.lemmas.List.Elements.{All-get_or, All-head, All-tail}
 use Rattle.std.proofs.lemmas.Option.{slice_get-map, slice_get_within, unwrap_or-slice_get, get_or_from_slice_get}
 use Rattle.net_types.specs.declared.arcs.Arc.{Arc}

@@ -1,15 +1,14 @@
 -- The laws of distances: least walks go over tight arcs, distances fall along them, and are few and small.
-use Rattle.std.proofs.Common.{ℕ, zero, suc, ◌≡◌, ◌<◌, ◌≤◌, ◌+◌, ◌-◌, ◌*◌, ◌^◌, ◌⊎◌, inl, inr, Bool, true, false, List, [], ◌∷◌, length, Option, Some, None, All, get_or, arith, ap, sym, subst, ◌∙◌, refl}
+use Rattle.std.proofs.Common.{ℕ, zero, suc, ◌≡◌, ◌<◌, ◌≤◌, ◌+◌, ◌-◌, ◌*◌, ◌⊎◌, inl, inr, true, false, List, [], ◌∷◌, length, Option, Some, None, arith, ap, sym, subst, ◌∙◌, refl}
 use Rattle.std.proofs.lemmas.List.{ext_get_or, get_or_past}
 use Rattle.std.proofs.lemmas.List.Elements.{All-nil, All-cons}
 use Rattle.net_types.specs.declared.arcs.Arc.{Arc}
-use Rattle.net_types.specs.Distance.{Crosses, IsWalk, IsLeastSum, IsDistance, AreDistances, distance_at, IsTight, IsHop, HasHop}
+use Rattle.net_types.specs.Distance.{IsWalk, IsLeastSum, IsDistance, AreDistances, distance_at, IsTight, HasHop}
 use Rattle.net_types.specs.NetFacts.{IsNet}
 use Rattle.net_types.specs.NetValue.{NetValue}
-use Rattle.net_types.specs.Owners.{owns}
 use Rattle.net_types.specs.PrefixValue.{PrefixValue}
 use Rattle.ospf_paths.specs.Laws.{FarRoutersHop, TightArcsApproach, IsTightArc, LeastWalksGoOn, LeastWalksAreTight, DistancesAreOne, DistancesAreSmall}
-use Rattle.ospf_paths.proofs.Facts.{IsInside, crossed, stubbed}
+use Rattle.ospf_paths.proofs.Facts.{crossed, stubbed}
 use Rattle.ospf_paths.proofs.Passes.{unwrap}
 
 inside_or_not : (u n : ℕ) → (u < n) ⊎ (n ≤ u)
@@ -23,12 +22,12 @@ at_inside ds u d is = elim (inside_or_not u (length ds)) [
 ]
 
 -- what an entry says
-least_at : (net : NetValue) (prefix : PrefixValue) (failed : List ℕ) (ds : List (Option ℕ)) → AreDistances net prefix failed ds → (u d : ℕ) → distance_at ds u ≡ Some d → IsLeastSum net prefix failed u d
+pub least_at : (net : NetValue) (prefix : PrefixValue) (failed : List ℕ) (ds : List (Option ℕ)) → AreDistances net prefix failed ds → (u d : ℕ) → distance_at ds u ≡ Some d → IsLeastSum net prefix failed u d
 least_at net prefix failed ds are u d is =
     let low = at_inside ds u d is in
     subst (λ (o : Option ℕ). IsDistance net prefix failed u o) is (are.each u (let e = are.long in omega arith))
 
-none_at : (net : NetValue) (prefix : PrefixValue) (failed : List ℕ) (ds : List (Option ℕ)) → AreDistances net prefix failed ds → (u : ℕ) → u < length net.routers → distance_at ds u ≡ None → (arcs : List Arc) (sum : ℕ) → IsWalk net prefix failed arcs u sum → ⊥
+pub none_at : (net : NetValue) (prefix : PrefixValue) (failed : List ℕ) (ds : List (Option ℕ)) → AreDistances net prefix failed ds → (u : ℕ) → u < length net.routers → distance_at ds u ≡ None → (arcs : List Arc) (sum : ℕ) → IsWalk net prefix failed arcs u sum → ⊥
 none_at net prefix failed ds are u low is =
     subst (λ (o : Option ℕ). IsDistance net prefix failed u o) is (are.each u low)
 
@@ -58,12 +57,12 @@ least_walks_are_tight net prefix failed ds valid are (arc ∷ arcs) u d walk at 
     All-cons (IsTightArc net failed ds) arc arcs (u, n.0, n.2) (least_walks_are_tight net prefix failed ds valid are arcs n.0 n.1 n.3 n.4)
 
 pub far_routers_hop : FarRoutersHop
-far_routers_hop net prefix failed ds valid are u d at no_owner = go (least_at net prefix failed ds are u d at).walk.0 (least_at net prefix failed ds are u d at).walk.1 where
+far_routers_hop net prefix failed ds valid are u d at leaves = go (least_at net prefix failed ds are u d at).walk.0 (least_at net prefix failed ds are u d at).walk.1 where
   go : (arcs : List Arc) → IsWalk net prefix failed arcs u d → (v : ℕ) × HasHop net prefix failed ds u v
-  go [] walk = let e : true ≡ false = sym (stubbed net valid prefix u d walk).owner ∙ no_owner in cc
+  go [] walk = let e : true ≡ false = sym (stubbed net valid prefix u d walk).owner ∙ leaves in cc
   go (arc ∷ arcs) walk =
       let n = least_walks_go_on net prefix failed ds valid are arc arcs u d walk at in
-      (n.0, (arc, record { tight = n.2; no_owner = no_owner }))
+      (n.0, (arc, record { tight = n.2; no_owner = leaves }))
 
 pub tight_arcs_approach : TightArcsApproach
 tight_arcs_approach net failed ds arc u v near far valid tight at_u at_v =
@@ -141,3 +140,17 @@ distances_are_small net prefix failed ds valid are u d at =
     let w = walk_small net prefix failed ds valid are l.walk.0 u d l.walk.1 at in
     let few = within_few d ds in let long = are.long in let most = valid.few_routers in
     omega arith
+
+-- the routers of a least walk are ever nearer, so there are no more than have entries
+walk_within : (net : NetValue) (prefix : PrefixValue) (failed : List ℕ) (ds : List (Option ℕ)) → IsNet net → AreDistances net prefix failed ds → (arcs : List Arc) (u d : ℕ) → IsWalk net prefix failed arcs u d → distance_at ds u ≡ Some d → length arcs + 1 ≤ within d ds
+walk_within net prefix failed ds valid are [] u d walk at = let c = within_some ds u d at in omega arith
+walk_within net prefix failed ds valid are (arc ∷ arcs) u d walk at =
+    let n = least_walks_go_on net prefix failed ds valid are arc arcs u d walk at in
+    let i = walk_within net prefix failed ds valid are arcs n.0 n.1 n.3 n.4 in
+    let less = tight_arcs_approach net failed ds arc u n.0 d n.1 valid n.2 at n.4 in
+    let more = within_less ds u n.1 d at less in
+    omega arith
+
+pub walk_short : (net : NetValue) (prefix : PrefixValue) (failed : List ℕ) (ds : List (Option ℕ)) → IsNet net → AreDistances net prefix failed ds → (arcs : List Arc) (u d : ℕ) → IsWalk net prefix failed arcs u d → distance_at ds u ≡ Some d → length arcs < length ds
+walk_short net prefix failed ds valid are arcs u d walk at =
+    let w = walk_within net prefix failed ds valid are arcs u d walk at in let f = within_few d ds in omega arith

@@ -1,16 +1,16 @@
 -- What the passes over the links keep, and that entries which no arc shortens are the distances.
-use Rattle.std.proofs.Common.{ℕ, zero, suc, ◌≡◌, ◌≢◌, ◌<◌, ◌≤◌, ◌+◌, ◌*◌, ◌||◌, ◌⊎◌, inl, inr, Bool, true, false, List, [], ◌∷◌, length, map, take, drop, ◌++◌, Option, Some, None, get_or, set, arith, ap, sym, subst, ◌∙◌, refl, get_or-set_same, get_or-set_other}
+use Rattle.std.proofs.Common.{ℕ, zero, suc, ◌≡◌, ◌≢◌, ◌<◌, ◌≤◌, ◌+◌, ◌*◌, ◌||◌, ◌⊎◌, inl, inr, Bool, true, false, List, [], ◌∷◌, length, take, drop, ◌++◌, Option, Some, None, set, arith, sym, subst, ◌∙◌, refl, get_or-set_same, get_or-set_other}
 use Rattle.std.proofs.lemmas.Grind.{common_steps}
 use Rattle.std.proofs.lemmas.List.{length-set, length-map}
 use Rattle.net_types.specs.declared.arcs.Arc.{Arc}
-use Rattle.net_types.specs.Distance.{Crosses, IsWalk, IsLeastSum, IsDistance, AreDistances, distance_at}
+use Rattle.net_types.specs.Distance.{Crosses, IsWalk, IsDistance, AreDistances, distance_at}
 use Rattle.net_types.specs.NetFacts.{IsNet}
 use Rattle.net_types.specs.NetValue.{NetValue}
 use Rattle.net_types.specs.declared.network.Router.{Router}
-use Rattle.net_types.specs.Owners.{stub_cost, stub_of}
+use Rattle.net_types.specs.Owners.{stub_of}
 use Rattle.net_types.specs.PrefixValue.{PrefixValue}
-use Rattle.ospf_paths.specs.OnTheWay.{stub_costs, present, weight, AreBounded, AreSums, IsSettled, Lowers, Keeps, Lowered, Shortens, Leaves, Visited, Passed}
-use Rattle.ospf_paths.proofs.Facts.{IsInside, crossed, crossed_once, AreSame, IsStub, stubbed, stub_costs_at}
+use Rattle.ospf_paths.specs.OnTheWay.{stub_costs, present, weight, AreBounded, AreSums, IsSettled, Lowered, Shortens, Leaves, Visited, Passed}
+use Rattle.ospf_paths.proofs.Facts.{IsInside, crossed, crossed_once, stubbed, stub_costs_at}
 
 -- entries that no arc shortens are at most the sums of walks
 reached : (net : NetValue) (prefix : PrefixValue) (failed : List ℕ) (ds : List (Option ℕ)) → AreSums net prefix failed ds → ((arc : Arc) → IsSettled net failed ds arc) → (arcs : List Arc) (u sum : ℕ) → IsWalk net prefix failed arcs u sum → (d : ℕ) × (distance_at ds u ≡ Some d) × (d ≤ sum)

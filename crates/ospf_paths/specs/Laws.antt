@@ -1,11 +1,13 @@
 -- What is true of the distances of every network, prefix and failure set.
-use Rattle.std.specs.Prelude.{ℕ, ◌≡◌, ◌<◌, ◌^◌, ◌∷◌, false, List, Option, Some, All}
+use Rattle.std.specs.Prelude.{ℕ, ◌≡◌, ◌≢◌, ◌<◌, ◌^◌, ◌↔◌, ◌∷◌, true, false, List, Option, Some, All}
 use Rattle.net_types.specs.declared.arcs.Arc.{Arc}
 use Rattle.net_types.specs.Distance.{IsWalk, AreDistances, distance_at, IsTight, HasHop}
+use Rattle.net_types.specs.FailSets.{holds}
 use Rattle.net_types.specs.NetFacts.{IsNet}
 use Rattle.net_types.specs.NetValue.{NetValue}
 use Rattle.net_types.specs.Owners.{owns}
 use Rattle.net_types.specs.PrefixValue.{PrefixValue}
+use Rattle.ospf_paths.specs.DistanceList.{distance_list}
 
 -- a router with a distance that is no owner has a next hop
 abbrev pub FarRoutersHop : Type 0
@@ -50,3 +52,28 @@ abbrev pub DistancesAreSmall : Type 0
 DistancesAreSmall =
     (net : NetValue) (prefix : PrefixValue) (failed : List ℕ) (distances : List (Option ℕ)) → IsNet net → AreDistances net prefix failed distances →
     (u distance : ℕ) → distance_at distances u ≡ Some distance → distance < 2 ^ 32
+
+-- the distance list is the list of distances
+abbrev pub DistanceListIs : Type 0
+DistanceListIs =
+    (net : NetValue) (prefix : PrefixValue) (failed : List ℕ) → IsNet net →
+    AreDistances net prefix failed (distance_list net prefix failed)
+
+-- the failure set is the other with this link
+pub record IsWith (failed : List ℕ) (link : ℕ) (more : List ℕ) : Type 0 where
+  pub has : holds more link ≡ true
+  pub others : (other : ℕ) → other ≢ link → holds more other ≡ holds failed other
+
+-- where no direction of a link is tight, its failure changes no distance
+abbrev pub SlackLinksKeepDistances : Type 0
+SlackLinksKeepDistances =
+    (net : NetValue) (prefix : PrefixValue) (failed more : List ℕ) (link : ℕ) (distances : List (Option ℕ)) → IsNet net → AreDistances net prefix failed distances →
+    IsWith failed link more → ((arc : Arc) → IsTightArc net failed distances arc → arc.link ≢ link) →
+    AreDistances net prefix more distances
+
+-- and no tight arc
+abbrev pub SlackLinksKeepTightArcs : Type 0
+SlackLinksKeepTightArcs =
+    (net : NetValue) (failed more : List ℕ) (link : ℕ) (distances : List (Option ℕ)) →
+    IsWith failed link more → ((arc : Arc) → IsTightArc net failed distances arc → arc.link ≢ link) →
+    (arc : Arc) (u v : ℕ) → IsTight net failed distances arc u v ↔ IsTight net more distances arc u v

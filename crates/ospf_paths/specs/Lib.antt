@@ -1,2 +1,3 @@
+pub mod DistanceList
 pub mod OnTheWay
 pub mod Laws

@@ -1,7 +1,7 @@
 //! What is true of the distances of every network, stated over definitions: each law is the contract of
 //! a function that does nothing.
 
-ghost use Rattle.ospf_paths.specs.Laws.{FarRoutersHop, TightArcsApproach, LeastWalksGoOn, LeastWalksAreTight, DistancesAreOne, DistancesAreSmall};
+ghost use Rattle.ospf_paths.specs.Laws.{FarRoutersHop, TightArcsApproach, LeastWalksGoOn, LeastWalksAreTight, DistancesAreOne, DistancesAreSmall, DistanceListIs, SlackLinksKeepDistances, SlackLinksKeepTightArcs};
 
 /// A router with a distance that is no owner has a next hop.
 pub fn law_of_hops()
@@ -31,4 +31,15 @@ pub fn law_of_one_list()
 /// Each distance is below 2 to the power of 32.
 pub fn law_of_size()
     ensures { DistancesAreSmall }
+{}
+
+/// The distance list of `specs/DistanceList.antt` is the list of distances.
+pub fn law_of_distance_list()
+    ensures { DistanceListIs }
+{}
+
+/// Where no direction of a link is tight, its failure changes no distance.
+pub fn law_of_slack_links()
+    ensures distances { SlackLinksKeepDistances }
+    ensures arcs { SlackLinksKeepTightArcs }
 {}

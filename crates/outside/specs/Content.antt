@@ -3,7 +3,7 @@ use Rattle.std.specs.Prelude.{◌≡◌, ◌≢◌, ℕ, ◌==◌, Bool, ◌||�
 use Rattle.std.specs.List.{list_any}
 use Rattle.net_types.specs.Order.{same_text}
 
--- the folders that are named, and the files: a finite map from path to bytes
+-- the folders that are named, and the files: a finite map from path to bytes, as pairs with each path once
 pub record Content : Type 0 where
   pub folders : List (List ℕ)
   pub files : List (List ℕ × List ℕ)

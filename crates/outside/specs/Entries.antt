@@ -9,9 +9,11 @@ use Rattle.outside.specs.Content.{Content, name_in, below}
 abbrev pub names_folder : List ℕ → Bool
 names_folder name = ends_with nat_eq name (47 ∷ [])
 
+-- the folder that an entry names
 abbrev pub folder_of : SourceFile → Option (List ℕ)
 folder_of entry = if names_folder entry.name then Some (take (length entry.name - 1) entry.name) else None
 
+-- the file that an entry is, by its path
 abbrev pub file_of : SourceFile → Option (List ℕ × List ℕ)
 file_of entry = if names_folder entry.name then None else Some (entry.name, entry.text)
 

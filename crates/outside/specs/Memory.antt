@@ -5,6 +5,7 @@ use Rattle.outside.specs.declared.shelf.ShelfError.TheVariants.{Failed, Absent, 
 use Rattle.outside.specs.Calls.{CallsValue, fails, begun, with_fault}
 use Rattle.outside.specs.Content.{Content, names_in, bytes_at, first_bytes_at, is_folder}
 
+-- the calls, and the content that is told
 pub record ShelfValue : Type 0 where
   pub calls : CallsValue
   pub content : Content
@@ -27,7 +28,7 @@ ReadsExactly shelf path limit (Err NoMemory) = fails shelf.calls ≡ false
 abbrev pub after_call : ShelfValue → ShelfValue
 after_call shelf = record { calls = begun shelf.calls; content = shelf.content }
 
--- the room in bytes, and the bytes that were given
+-- the calls, the room in bytes, and the bytes that were given
 pub record SinkValue : Type 0 where
   pub calls : CallsValue
   pub room : ℕ

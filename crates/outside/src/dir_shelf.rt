@@ -26,7 +26,7 @@ impl<R> Model for DirShelf<R> {
 }
 
 impl<R> DirShelf<R> {
-    ghost use Rattle.std.specs.Prelude.{◌≡◌, ◌≤◌};
+    ghost use Rattle.std.specs.Prelude.{◌≡◌, ◌≢◌, ◌≤◌, ◌↔◌};
     ghost use Rattle.outside.specs.Shelf.{IsRefusal};
 
     /// The shelf over the files of a runtime, with a count of 0.
@@ -40,23 +40,29 @@ impl<R> DirShelf<R> {
     fn refused(&mut self, kind: ErrorKind) -> ShelfError
         ensures kept { self.old ≤ self.new }
         ensures cause { IsRefusal self.old self.new result }
+        ensures no_memory { (result ≡ ShelfError.NoMemory) ↔ (kind ≡ ErrorKind.OutOfMemory) }
+        ensures there { result ≢ ShelfError.Absent }
     {
-        if kind == ErrorKind::OutOfMemory {
-            return ShelfError::NoMemory;
+        match kind {
+            ErrorKind::OutOfMemory => ShelfError::NoMemory,
+            _ => {
+                self.faults = self.faults.saturating_add(1);
+                ShelfError::Failed
+            }
         }
-        self.faults = self.faults.saturating_add(1);
-        ShelfError::Failed
     }
 
     // The same where a path was opened: it may not be there.
     fn not_opened(&mut self, kind: ErrorKind) -> ShelfError
         ensures kept { self.old ≤ self.new }
         ensures cause { IsRefusal self.old self.new result }
+        ensures no_memory { (result ≡ ShelfError.NoMemory) ↔ (kind ≡ ErrorKind.OutOfMemory) }
+        ensures absent { (result ≡ ShelfError.Absent) ↔ (kind ≡ ErrorKind.NotFound) }
     {
-        if kind == ErrorKind::NotFound {
-            return ShelfError::Absent;
+        match kind {
+            ErrorKind::NotFound => ShelfError::Absent,
+            _ => self.refused(kind),
         }
-        self.refused(kind)
     }
 }
 

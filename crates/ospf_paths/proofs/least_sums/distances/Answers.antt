@@ -1,4 +1,4 @@
-use Rattle.std.proofs.Common.{◌≡◌, ◌∙◌, List, Option, ℕ, arith, ap, length}
+use Rattle.std.proofs.Common.{◌≡◌, ◌∙◌, arith, ap, length}
 use Rattle.ospf_paths.specs.OnTheWay.{stub_costs, AreSums}
 use Rattle.ospf_paths.proofs.Passes.{start_bounded, start_sums, settled_are_distances, bounded_small, given_back}
 use Rattle.ospf_paths.proofs.least_sums.distances.Goals as goal

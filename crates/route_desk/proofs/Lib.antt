@@ -1,0 +1,6 @@
+pub mod BookLemmas
+pub mod ZipLemmas
+pub mod NameLemmas
+pub mod FolderLemmas
+pub mod StopLemmas
+pub mod RunLemmas

@@ -1,0 +1,9 @@
+pub mod Book
+pub mod Applicable
+pub mod Report
+pub mod Verdicts
+pub mod Refusals
+pub mod Folder
+pub mod Stops
+pub mod Ending
+pub mod Running

@@ -1,0 +1,117 @@
+//! The verdicts of a book in a network without sessions, with no failed link.
+
+ghost use Rattle.std.specs.Prelude.{◌≡◌, ◌<◌, ◌≤◌, ◌↔◌, ◌+◌, [], IfOk, IsTrue, Some, None, is_some, length, map, filter};
+ghost use Rattle.std.specs.List.{list_any};
+ghost use Rattle.net_types.specs.Prefixes.{same_prefix};
+ghost use Rattle.net_types.specs.Distance.{AreDistances, distance_at};
+ghost use Rattle.route_desk.specs.Applicable.{barred, number_of};
+ghost use Rattle.route_desk.specs.Verdicts.{HasSureRoute, IsOutcome, IsVerdict, Asks, applies, asked_prefixes, case_count, distinct_count};
+
+use crate::applicable::{applicable, number_of};
+use crate::property::Property;
+use crate::verdict::{Barred, Broken, Outcome, Verdict};
+use net_types::{FailSet, List, Net, NoMemory, Prefix};
+use ospf_paths::distances;
+use std::alloc::Global;
+
+// Whether the router owns the prefix or has a distance.
+fn has_sure_route(alloc: Global, net: &Net, prefix: &Prefix, router: u8) -> Result<bool, NoMemory>
+    requires { router < length net.now.routers }
+    ensures { IfOk result (λ sure. IsTrue sure ↔ HasSureRoute net.now prefix.now router) }
+{
+    if net.owns(router, prefix) {
+        return Ok(true);
+    }
+    let distances = distances(alloc, net, *prefix, FailSet::empty())?;
+    Ok(has_distance(distances.as_slice(), router))
+}
+
+fn has_distance(distances: &[Option<u64>], router: u8) -> bool
+    ensures { result ≡ is_some (distance_at distances.now router) }
+{
+    match distances.get(usize::from(router)) {
+        Some(distance) => distance.is_some(),
+        None => false,
+    }
+}
+
+// The verdict of a property that applies.
+fn verdict_at(
+    alloc: Global,
+    net: &Net,
+    property: &Property,
+    router: u8,
+) -> Result<Verdict, NoMemory>
+    requires asks { Asks net.now property.now router }
+    requires within { router < length net.now.routers }
+    ensures { IfOk result (λ verdict. IsVerdict net.now property.now verdict) }
+{
+    if has_sure_route(alloc, net, &property.prefix, router)? {
+        Ok(Verdict::Certified)
+    } else {
+        Ok(Verdict::NotCertified(FailSet::empty(), Broken::NoSureRoute(router)))
+    }
+}
+
+// The verdict of a property.
+#[tactic(auto, unfolding(crate::specs::Applicable::barred))]
+fn verdict_of(alloc: Global, net: &Net, property: &Property) -> Result<Verdict, NoMemory>
+    ensures { IfOk result (λ verdict. IsVerdict net.now property.now verdict) }
+{
+    net.valid();
+    if let Some(bar) = applicable(net, property) {
+        return Ok(Verdict::NotApplicable(bar));
+    }
+    match number_of(net, &property.router) {
+        Some(router) => verdict_at(alloc, net, property, router as u8),
+        None => Ok(Verdict::NotApplicable(Barred::UnknownRouter)),
+    }
+}
+
+fn applies(net: &Net, property: &Property) -> bool
+    ensures { result ≡ applies net.now property.now }
+{
+    applicable(net, property).is_none()
+}
+
+// Whether a later property that applies has the prefix too.
+fn is_repeated(net: &Net, prefix: &Prefix, later: &[Property]) -> bool
+    ensures { result ≡ list_any (same_prefix prefix.now) (asked_prefixes net.now later.now) }
+{
+    for property in later {
+        if applies(net, property) && prefix.is_same(&property.prefix) {
+            return true;
+        }
+    }
+    false
+}
+
+// The number of prefixes that the properties which apply ask of.
+fn case_count(net: &Net, book: &[Property]) -> u64
+    ensures { result ≡ case_count net.now book.now }
+{
+    let mut count = 0;
+    for (i, property) in book.iter().enumerate() {
+        if applies(net, property) && !is_repeated(net, &property.prefix, &book[i + 1..]) {
+            count += 1;
+        }
+    }
+    count
+}
+
+/// What is found of a book in a network without sessions.
+pub fn outcome_of(alloc: Global, net: &Net, book: &[Property]) -> Result<Outcome, NoMemory>
+    ensures outcome { IfOk result (λ outcome. IsOutcome net.now book.now outcome) }
+    ensures long { IfOk result (λ outcome. length outcome.verdicts ≡ length book.now) }
+{
+    let mut verdicts = List::new(alloc);
+    for property in book {
+        verdicts.push(verdict_of(alloc, net, property)?)?;
+    }
+    let cases = case_count(net, book);
+    Ok(Outcome {
+        verdicts,
+        solved: cases,
+        total: cases,
+    })
+}
