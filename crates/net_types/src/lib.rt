@@ -22,6 +22,8 @@ mod numbers;
 mod prefixes;
 mod refusals;
 mod routes;
+#[cfg(test)]
+mod tests;
 mod texts;
 
 pub use address_texts::{address_text, prefix_text};
