@@ -1,13 +1,14 @@
 -- The reading of a file is its configuration or the refusal of its first refused line.
-use Rattle.std.proofs.Common.{ℕ, ◌≡◌, ◌⊎◌, ◌++◌, List, [], ◌∷◌, Option, Some, None, Result, Ok, Err, MatchResult, option_and_then, fold, inl, inr, refl, sym, ◌∙◌, ap}
+use Rattle.std.proofs.Common.{ℕ, ◌≡◌, ◌⊎◌, ◌++◌, List, [], ◌∷◌, Option, Some, None, Result, Ok, Err, IfSome, IfOk, MatchResult, option_and_then, fold, inl, inr, refl, sym, ◌∙◌, ap}
 use Rattle.net_types.specs.declared.config.RouterConfig.{RouterConfig}
 use Rattle.net_types.specs.declared.refusals.ReadRefusal.{ReadRefusal}
 use Rattle.net_types.specs.declared.refusals.ReadRefusal.TheVariants.{NoMemory}
 use Rattle.frr_reader.specs.declared.causes.Cause.{Cause}
 use Rattle.frr_reader.specs.Lines.{LineValue, lines}
-use Rattle.frr_reader.specs.State.{State, start}
+use Rattle.frr_reader.specs.State.{State, start, IsOpen}
 use Rattle.frr_reader.specs.Reading.{step, RefusedLine, go_on, read_lines, config_of, refusal_of, concluded, reading}
 use Rattle.frr_reader.specs.FirstRefusal.{accepted, after, IsConf, IsRefAtLine, IsRefAtEnd, IsRef, IsReadOnce}
+use Rattle.frr_reader.proofs.KeptLemmas.{IsKept, step_kept, start_kept}
 
 -- after s, but from a state that may not be there
 abbrev onwards : Option State → List LineValue → Option State
@@ -135,6 +136,18 @@ never_memory : (text : List ℕ) → IsRef text NoMemory → ⊥
 never_memory text (inl h) = let e = h.named in cc
 never_memory text (inr h) = config_of-memory h.state h.state.host h.refused
 
+-- each state that is reached keeps what a line keeps
+onwards_kept : (ls : List LineValue) (o : Option State) → IfSome o IsKept → IfSome (onwards o ls) IsKept
+onwards_kept [] o h = h
+onwards_kept (line ∷ more) None h = onwards_kept more None tt
+onwards_kept (line ∷ more) (Some s) h = onwards_kept more (accepted (step s line)) (go (step s line) (step_kept s line h)) where
+  go : (r : Result State Cause) → IfOk r IsKept → IfSome (accepted r) IsKept
+  go (Ok t) k = k
+  go (Err cause) k = tt
+
+reached_open : (before : List LineValue) (state : State) → after start before ≡ Some state → IsOpen state
+reached_open before state e = let h : IfSome (Some state) IsKept = rw e at (onwards_kept before (Some start) start_kept) in h.opened
+
 pub read_once : (text : List ℕ) → IsReadOnce text
 read_once text = record {
   conf = λ config. (conf-gives text config, reading-conf text config);
@@ -143,5 +156,6 @@ read_once text = record {
   apart = apart text;
   same_conf = same_conf text;
   same_ref = same_ref text;
+  «open» = λ before behind state e f. reached_open before state f;
   no_memory = never_memory text;
 }

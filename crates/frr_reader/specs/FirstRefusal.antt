@@ -6,7 +6,7 @@ use Rattle.net_types.specs.declared.refusals.ReadRefusal.{ReadRefusal}
 use Rattle.net_types.specs.declared.refusals.ReadRefusal.TheVariants.{NoMemory}
 use Rattle.frr_reader.specs.declared.causes.Cause.{Cause}
 use Rattle.frr_reader.specs.Lines.{LineValue, lines}
-use Rattle.frr_reader.specs.State.{State, start}
+use Rattle.frr_reader.specs.State.{State, start, IsOpen}
 use Rattle.frr_reader.specs.Reading.{step, config_of, refusal_of, reading}
 
 abbrev pub accepted : Result State Cause → Option State
@@ -49,7 +49,8 @@ abbrev pub IsRef : List ℕ → ReadRefusal → Type 0
 IsRef text refusal = IsRefAtLine text refusal ⊎ IsRefAtEnd text refusal
 
 -- each file has one of the two, a configuration or a refusal, never both, and only one; the reading says
--- which; and want of memory is no refusal of a file
+-- which; wherever a line stands in the mode of an interface, one is open; and want of memory is no refusal
+-- of a file
 pub record IsReadOnce (text : List ℕ) : Type 0 where
   pub conf : (config : RouterConfig) → (reading text ≡ Ok config) ↔ IsConf text config
   pub ref : (refusal : ReadRefusal) → (reading text ≡ Err refusal) ↔ IsRef text refusal
@@ -57,4 +58,5 @@ pub record IsReadOnce (text : List ℕ) : Type 0 where
   pub apart : (config : RouterConfig) (refusal : ReadRefusal) → IsConf text config → IsRef text refusal → ⊥
   pub same_conf : (a b : RouterConfig) → IsConf text a → IsConf text b → a ≡ b
   pub same_ref : (a b : ReadRefusal) → IsRef text a → IsRef text b → a ≡ b
+  pub «open» : (before behind : List LineValue) (state : State) → lines text ≡ before ++ behind → after start before ≡ Some state → IsOpen state
   pub no_memory : IsRef text NoMemory → ⊥

@@ -30,6 +30,13 @@ pub enum LineRefusal {
     NoMemory,
 }
 
+/// What follows the head does not fit the row.
+pub const BAD_VALUE: LineRefusal = LineRefusal::Refused(Cause::BadValue);
+/// The line stands where its row may not.
+pub const OUT_OF_PLACE: LineRefusal = LineRefusal::Refused(Cause::OutOfPlace);
+/// What the line sets is already set.
+pub const REPEATED: LineRefusal = LineRefusal::Refused(Cause::Repeated);
+
 impl From<AllocError> for LineRefusal {
     ghost use Rattle.std.specs.Prelude.{◌≡◌};
     ghost use Rattle.frr_reader.specs.declared.causes.LineRefusal.TheVariants.{NoMemory};

@@ -5,7 +5,7 @@ ghost use Rattle.frr_reader.specs.State.{start};
 ghost use Rattle.frr_reader.specs.Reading.{config_of};
 ghost use Rattle.frr_reader.specs.Effects.{Takes, place_of, fresh_interface, effect, host_line, interface_line, address_line, area_line, cost_line, shutdown_line, ospf_line, network_line, exit_line, end_line};
 
-use crate::causes::{Cause, LineRefusal};
+use crate::causes::{BAD_VALUE, LineRefusal, OUT_OF_PLACE, REPEATED};
 use crate::table::{Mode, Row};
 use crate::values;
 use crate::words::Words;
@@ -110,8 +110,8 @@ impl Reader {
         ensures { Takes (host_line rest.now self.old) self.new result }
     {
         match values::host(rest) {
-            None => Err(LineRefusal::Refused(Cause::BadValue)),
-            Some(_host) if self.host.is_some() => Err(LineRefusal::Refused(Cause::Repeated)),
+            None => Err(BAD_VALUE),
+            Some(_host) if self.host.is_some() => Err(REPEATED),
             Some(host) => {
                 self.host = Some(values::ascii_text(alloc, host)?);
                 Ok(())
@@ -134,7 +134,7 @@ impl Reader {
         ensures { Takes (interface_line rest.now self.old) self.new result }
     {
         match values::name(rest) {
-            None => Err(LineRefusal::Refused(Cause::BadValue)),
+            None => Err(BAD_VALUE),
             Some(name) => {
                 let place = self.place_of(name);
                 if place >= self.interfaces.len() {
@@ -153,13 +153,9 @@ impl Reader {
     {
         let place = self.open_place;
         match values::interface_address(rest) {
-            None => Err(LineRefusal::Refused(Cause::BadValue)),
-            Some(_address) if place >= self.interfaces.len() => Err(LineRefusal::Refused(
-                Cause::OutOfPlace,
-            )),
-            Some(_address) if self.interfaces[place].address.is_some() => Err(LineRefusal::Refused(
-                Cause::Repeated,
-            )),
+            None => Err(BAD_VALUE),
+            Some(_address) if place >= self.interfaces.len() => Err(OUT_OF_PLACE),
+            Some(_address) if self.interfaces[place].address.is_some() => Err(REPEATED),
             Some(address) => {
                 self.interfaces[place].address = Some(address);
                 Ok(())
@@ -173,13 +169,9 @@ impl Reader {
     {
         let place = self.open_place;
         match values::area(rest) {
-            None => Err(LineRefusal::Refused(Cause::BadValue)),
-            Some(_area) if place >= self.interfaces.len() => Err(LineRefusal::Refused(
-                Cause::OutOfPlace,
-            )),
-            Some(_area) if self.interfaces[place].ospf => Err(LineRefusal::Refused(
-                Cause::Repeated,
-            )),
+            None => Err(BAD_VALUE),
+            Some(_area) if place >= self.interfaces.len() => Err(OUT_OF_PLACE),
+            Some(_area) if self.interfaces[place].ospf => Err(REPEATED),
             Some(_area) => {
                 self.interfaces[place].ospf = true;
                 Ok(())
@@ -193,13 +185,9 @@ impl Reader {
     {
         let place = self.open_place;
         match values::cost(rest) {
-            None => Err(LineRefusal::Refused(Cause::BadValue)),
-            Some(_cost) if place >= self.interfaces.len() => Err(LineRefusal::Refused(
-                Cause::OutOfPlace,
-            )),
-            Some(_cost) if self.interfaces[place].cost.is_some() => Err(LineRefusal::Refused(
-                Cause::Repeated,
-            )),
+            None => Err(BAD_VALUE),
+            Some(_cost) if place >= self.interfaces.len() => Err(OUT_OF_PLACE),
+            Some(_cost) if self.interfaces[place].cost.is_some() => Err(REPEATED),
             Some(cost) => {
                 self.interfaces[place].cost = Some(cost);
                 Ok(())
@@ -213,10 +201,10 @@ impl Reader {
     {
         let place = self.open_place;
         if !values::is_nothing(rest) {
-            return Err(LineRefusal::Refused(Cause::BadValue));
+            return Err(BAD_VALUE);
         }
         if place >= self.interfaces.len() {
-            return Err(LineRefusal::Refused(Cause::OutOfPlace));
+            return Err(OUT_OF_PLACE);
         }
         self.interfaces[place].shutdown = true;
         Ok(())
@@ -227,7 +215,7 @@ impl Reader {
         ensures { Takes (ospf_line rest.now self.old) self.new result }
     {
         if !values::is_nothing(rest) {
-            return Err(LineRefusal::Refused(Cause::BadValue));
+            return Err(BAD_VALUE);
         }
         if self.ospf.is_none() {
             self.ospf = Some(List::new(alloc));
@@ -241,7 +229,7 @@ impl Reader {
         ensures { Takes (network_line rest.now self.old) self.new result }
     {
         match values::network(rest) {
-            None => Err(LineRefusal::Refused(Cause::BadValue)),
+            None => Err(BAD_VALUE),
             Some(prefix) => {
                 if let Some(prefixes) = &mut self.ospf {
                     prefixes.push(prefix)?;
@@ -256,7 +244,7 @@ impl Reader {
         ensures { Takes (exit_line rest.now self.old) self.new result }
     {
         if !values::is_nothing(rest) {
-            return Err(LineRefusal::Refused(Cause::BadValue));
+            return Err(BAD_VALUE);
         }
         self.mode = self.mode.outer();
         Ok(())
@@ -267,7 +255,7 @@ impl Reader {
         ensures { Takes (end_line rest.now self.old) self.new result }
     {
         if !values::is_nothing(rest) {
-            return Err(LineRefusal::Refused(Cause::BadValue));
+            return Err(BAD_VALUE);
         }
         self.mode = Mode::Top;
         Ok(())

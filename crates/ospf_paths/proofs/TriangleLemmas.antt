@@ -66,4 +66,5 @@ triangle_is a b c p q r ha hb hc sa sb va vb vc p1 p2 q1 q2 r1 r2 = record {
   no_export = (0, (lit< tt), refl);
   no_advertise = (1, (lit< tt), refl);
   notices = λ k d low. absurd (omega arith);
+  ordered = λ i j d less low. absurd (omega arith);
 }

@@ -6,3 +6,7 @@ pub mod LinkLemmas
 pub mod RouterLemmas
 pub mod NetLemmas
 pub mod ReadLemmas
+pub mod PairLemmas
+pub mod TwinLemmas
+pub mod MemberLemmas
+pub mod MeaningLemmas

@@ -5,3 +5,4 @@ pub mod Groups
 pub mod Owning
 pub mod Network
 pub mod Bundle
+pub mod Meaning

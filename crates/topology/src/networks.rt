@@ -4,6 +4,7 @@ ghost use Rattle.std.specs.Prelude.{◌≡◌, ◌≤◌, IfOk, All, map, length
 ghost use Rattle.net_types.specs.ConfigFacts.{IsConfig};
 ghost use Rattle.net_types.specs.NetFacts.{IsNet};
 ghost use Rattle.topology.specs.Groups.{IsNumbered};
+ghost use Rattle.topology.specs.Meaning.{IsNetworkOf, NamesLeastPair};
 ghost use Rattle.topology.specs.Network.{IsOspfOnly, Answers, unless, whole_refusals, net_from, net_of, network_of};
 
 use crate::groups::{Wire, links, shared_subnet, subnets, wires};
@@ -27,7 +28,9 @@ const NO_ADVERTISE: u32 = 0xFFFF_FF02;
 pub fn build(alloc: Global, configs: &[RouterConfig]) -> Result<Net, NetRefusal>
     requires valid { All IsConfig configs.now }
     requires ospf_only { All IsOspfOnly configs.now }
-    ensures { Answers (network_of configs.now) result }
+    ensures exact { Answers (network_of configs.now) result }
+    ensures network { IfOk result (λ net. IsNetworkOf configs.now net) }
+    ensures least_pair { NamesLeastPair configs.now result }
 {
     if let Some((i, j)) = host_pair(configs) {
         return Err(NetRefusal::SameHost(i as u64, j as u64));

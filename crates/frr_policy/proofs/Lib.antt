@@ -1,0 +1,5 @@
+pub mod CommunityLemmas
+pub mod GrammarLemmas
+pub mod MapLemmas
+pub mod NameLemmas
+pub mod WordLemmas

@@ -1,0 +1,10 @@
+pub mod Words
+pub mod Values
+pub mod Grammar
+pub mod Answers
+pub mod Lists
+pub mod PrefixLines
+pub mod CommunityLines
+pub mod MapRows
+pub mod MapLines
+pub mod MapPlaces

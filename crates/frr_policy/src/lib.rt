@@ -1,0 +1,33 @@
+//! The lines of a configuration that say what is done with routes: prefix lists, community lists and
+//! route maps.
+//!
+//! Decides: what the words of a line are, and what entry a line of a list or a map makes, or why it is
+//! refused. Which line stands in which block of a file, `frr_reader` decides.
+//! Stands on: `net_types` alone.
+//! Promises: each reader answers the entry of the line's row in the line table (`specs/Rows.antt`), or
+//! the first refusal that stands. Not: that the lists and maps that a line names are there.
+#![tactic(auto)]
+
+mod blanks;
+mod community_lines;
+mod copies;
+mod fronts;
+mod line_words;
+mod map_lines;
+mod map_places;
+mod map_rows;
+mod map_steps;
+mod numbering;
+mod prefix_lines;
+mod refusals;
+#[cfg(test)]
+mod tests;
+mod values;
+
+pub use blanks::Words;
+pub use community_lines::read_community_list_line;
+pub use line_words::words;
+pub use map_lines::read_map_line;
+pub use map_steps::MapStep;
+pub use prefix_lines::read_prefix_list_line;
+pub use refusals::LineRefusal;

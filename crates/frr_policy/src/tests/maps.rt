@@ -1,0 +1,208 @@
+//! Lines of route maps.
+
+use crate::{LineRefusal, MapStep, read_map_line, words};
+use net_types::{List, MapEntry, Origin, RouteMap, SetCommunity, Text};
+use std::alloc::AllocError;
+use std::test::Fail;
+
+fn read(
+    rt: &HostRuntime,
+    line: &str,
+    so_far: &[RouteMap],
+    current: Option<&MapEntry>,
+) -> Result<MapStep, LineRefusal> {
+    read_map_line(rt.alloc(), words(line.as_bytes()), so_far, current)
+}
+
+// The entry of a line that begins one.
+fn begun(rt: &HostRuntime, line: &str) -> Result<MapEntry, LineRefusal> {
+    match read(rt, line, &[], None)? {
+        MapStep::Begin(_name, entry) => Ok(entry),
+        MapStep::Change(_entry) => Err(LineRefusal::OutOfPlace),
+    }
+}
+
+// The entry that a line makes of the one whose block is open.
+fn changed(rt: &HostRuntime, line: &str, entry: &MapEntry) -> Result<MapEntry, LineRefusal> {
+    match read(rt, line, &[], Some(entry))? {
+        MapStep::Begin(_name, _entry) => Err(LineRefusal::OutOfPlace),
+        MapStep::Change(entry) => Ok(entry),
+    }
+}
+
+fn is_text(text: &Option<Text>, wanted: &str) -> bool {
+    match text {
+        Some(text) => text.as_str() == wanted,
+        None => false,
+    }
+}
+
+fn is_added(community: &SetCommunity, wanted: &[u32]) -> bool {
+    match community {
+        SetCommunity::Add(values) => values.as_slice() == wanted,
+        _ => false,
+    }
+}
+
+// One line of each row.
+static BLOCK: [&str; 9] = [
+    " match ip address prefix-list P",
+    " match community 7",
+    " set local-preference 200",
+    " set metric 4294967295",
+    " set weight 0",
+    " set origin egp",
+    " set community 65000:1 no-export additive",
+    " set comm-list C delete",
+    " set as-path prepend 65001 65001",
+];
+
+#[test]
+fn a_block_with_each_row(rt: HostRuntime) -> Result<(), Fail> {
+    let mut entry = begun(&rt, "route-map M deny 65535")?;
+    for line in &BLOCK {
+        entry = changed(&rt, line, &entry)?;
+    }
+    assert!(rt; entry.seq == 65_535 && !entry.permit);
+    assert!(rt; is_text(&entry.prefixes, "P") && is_text(&entry.communities, "7"));
+    assert_eq!(rt; entry.sets.preference, Some(200));
+    assert_eq!(rt; entry.sets.med, Some(4_294_967_295));
+    assert_eq!(rt; entry.sets.weight, Some(0));
+    assert_eq!(rt; entry.sets.origin, Some(Origin::Egp));
+    assert!(rt; is_added(&entry.sets.community, &[4_259_840_001, 0xFFFF_FF01]));
+    assert!(rt; is_text(&entry.sets.delete, "C"));
+    assert_eq!(rt; entry.sets.prepend.as_slice(), [65_001, 65_001].as_slice());
+    for line in &BLOCK {
+        let refusal = changed(&rt, line, &entry).err();
+        assert_eq!(rt; refusal, Some(LineRefusal::Repeated), "{line}");
+        let refusal = read(&rt, line, &[], None).err();
+        assert_eq!(rt; refusal, Some(LineRefusal::OutOfPlace), "{line}");
+    }
+    Ok(())
+}
+
+static BAD: [&str; 33] = [
+    "route-map",
+    "route-map M",
+    "route-map M permit",
+    "route-map M 10 permit",
+    "route-map M permit 0",
+    "route-map M permit 010",
+    "route-map M permit 65536",
+    "route-map M permit 10 20",
+    "match ip address prefix-list",
+    "match ip address prefix-list P Q",
+    "match community",
+    "match community A B",
+    "match community \u{7f}",
+    "set local-preference",
+    "set local-preference 4294967296",
+    "set metric -1",
+    "set metric +5",
+    "set metric 18446744073709551616",
+    "set weight 01",
+    "set weight 1 2",
+    "set origin",
+    "set origin bgp",
+    "set community",
+    "set community additive",
+    "set community 1:1 additive 2:2",
+    "set community none additive",
+    "set community 1:1 none",
+    "set comm-list C",
+    "set comm-list C remove",
+    "set comm-list C delete all",
+    "set as-path prepend",
+    "set as-path prepend 0",
+    "set as-path prepend 1 2 3 4 5 6 7 8 9 10 11",
+];
+
+static UNSUPPORTED: [&str; 10] = [
+    "match",
+    "match ip address",
+    "match ip address 7",
+    "match interface eth0",
+    "set",
+    "set ip next-hop 1.1.1.1",
+    "set as-path",
+    "set as-path exclude 1",
+    "on-match next",
+    "route-maps M permit 10",
+];
+
+#[test]
+fn refused_lines(rt: HostRuntime) -> Result<(), Fail> {
+    let entry = begun(&rt, "route-map M permit 1")?;
+    for line in &BAD {
+        let refusal = read(&rt, line, &[], Some(&entry)).err();
+        assert_eq!(rt; refusal, Some(LineRefusal::BadValue), "{line}");
+    }
+    for line in &UNSUPPORTED {
+        let refusal = read(&rt, line, &[], None).err();
+        assert_eq!(rt; refusal, Some(LineRefusal::Unsupported), "{line}");
+    }
+    let refusal = read(&rt, "set metric low", &[], None).err();
+    assert_eq!(rt; refusal, Some(LineRefusal::OutOfPlace));
+    Ok(())
+}
+
+#[test]
+fn other_values(rt: HostRuntime) -> Result<(), Fail> {
+    let entry = begun(&rt, "route-map M permit 1")?;
+    let cleared = changed(&rt, "set community none", &entry)?;
+    assert!(rt; matches!(&cleared.sets.community, SetCommunity::Clear));
+    let replaced = changed(&rt, "set community 1:1 0:0 1:1", &entry)?;
+    let is_replaced = match &replaced.sets.community {
+        SetCommunity::Replace(values) => values.as_slice() == [65_537, 0, 65_537].as_slice(),
+        _ => false,
+    };
+    assert!(rt; is_replaced);
+    let lines = [
+        ("set origin igp", Origin::Igp),
+        ("set origin incomplete", Origin::Incomplete),
+    ];
+    for (line, wanted) in lines {
+        assert_eq!(rt;
+            changed(&rt, line, &entry)?.sets.origin,
+            Some(wanted),
+            "{line}"
+        );
+    }
+    let ten = changed(
+        &rt,
+        "set as-path prepend 1 2 3 4 5 6 7 8 9 4294967295",
+        &entry,
+    )?;
+    assert_eq!(rt; ten.sets.prepend.len(), 10);
+    Ok(())
+}
+
+// A map `M` with entries of the numbers from 1 on.
+fn map_of(rt: &HostRuntime, count: u16) -> Result<RouteMap, Fail> {
+    let mut entries = List::new(rt.alloc());
+    for number in 0..count {
+        let line = format!(in rt.alloc(); "route-map M permit {}", u32::from(number) + 1)?;
+        entries.push(begun(rt, line.as_str())?)?;
+    }
+    let name = Text::from_str(rt.alloc(), "M")?;
+    Ok(RouteMap { name, entries })
+}
+
+#[test]
+fn numbers_of_map_entries(rt: HostRuntime) -> Result<(), Fail> {
+    let cases = [
+        (2, "route-map M permit 2", Some(LineRefusal::Repeated)),
+        (2, "route-map M permit 3", None),
+        (2, "route-map N permit 2", None),
+        (63, "route-map M permit 64", None),
+        (64, "route-map M permit 64", Some(LineRefusal::Repeated)),
+        (64, "route-map M permit 65", Some(LineRefusal::OutOfLimit)),
+        (64, "route-map N permit 65", None),
+    ];
+    for (count, line, wanted) in cases {
+        let map = map_of(&rt, count)?;
+        let refusal = read(&rt, line, &[map], None).err();
+        assert_eq!(rt; refusal, wanted, "{line}");
+    }
+    Ok(())
+}

@@ -1,0 +1,180 @@
+//! What one word of a line says.
+
+ghost use Rattle.std.specs.Prelude.{◌≡◌, ◌≤◌, IfOk, IfSome, option_map};
+ghost use Rattle.net_types.specs.Cut.{parts};
+ghost use Rattle.frr_policy.specs.Values.{name_of, action_of, positive_of, u32_of, map_number_of, origin_of, list_number_of, half_of, community_of, community_of_parts, length_of, masked_prefix_of};
+
+use crate::blanks::is_word;
+use net_types::{Origin, Prefix, Text, cut, is_name, read_interface, read_number};
+use std::alloc::{AllocError, Global};
+use std::marker::Model;
+
+/// The name of a list or a map, as it stands in a line. Contracts see its bytes.
+#[derive(Debug, Drop)]
+pub(crate) struct Name<'a> {
+    bytes: &'a [u8],
+}
+
+impl<'a> Model for Name<'a> {
+    ghost use Rattle.std.specs.Prelude.{List as Seq, ℕ, ◌<◌, All};
+
+    ghost Value = { Seq ℕ };
+
+    ghost view = { λ it. it.bytes.now };
+
+    ghost invariant = { λ it. All (λ b. b < 128) it.bytes.now };
+}
+
+impl<'a> Name<'a> {
+    /// NAME: a word of 1 to 63 bytes from 33 to 126.
+    #[tactic(auto, using(crate::proofs::NameLemmas::name_ascii))]
+    pub(crate) fn of(word: &'a [u8]) -> Option<Name<'a>>
+        ensures { result ≡ name_of word.now }
+    {
+        if is_name(word) {
+            Some(Name { bytes: word })
+        } else {
+            None
+        }
+    }
+
+    /// NUM 1 to 99 as a name.
+    #[tactic(auto, using(crate::proofs::NameLemmas::numeral_ascii))]
+    pub(crate) fn of_number(word: &'a [u8]) -> Option<Name<'a>>
+        ensures { result ≡ option_map (λ _. word.now) (list_number_of word.now) }
+    {
+        match read_number(word, 1, 99) {
+            Some(_number) => Some(Name { bytes: word }),
+            None => None,
+        }
+    }
+
+    pub(crate) fn as_bytes(&self) -> &'a [u8]
+        ensures { result.now ≡ self.now }
+    {
+        self.bytes
+    }
+
+    /// The name as a text of its own.
+    pub(crate) fn to_text(&self, alloc: Global) -> Result<Text, AllocError>
+        ensures { IfOk result (λ text. text ≡ self.now) }
+    {
+        match str::from_utf8(self.bytes) {
+            Ok(text) => Text::from_str(alloc, text),
+            Err(_error) => unreachable!(),
+        }
+    }
+}
+
+/// ACT: `permit` or `deny`, as whether it is `permit`.
+pub(crate) fn action_of(word: &[u8]) -> Option<bool>
+    ensures { result ≡ action_of word.now }
+{
+    if is_word(b"permit", word) {
+        Some(true)
+    } else if is_word(b"deny", word) {
+        Some(false)
+    } else {
+        None
+    }
+}
+
+/// A number from 1 to 4,294,967,295: a sequence number of a list, or an AS number.
+pub(crate) fn positive_of(word: &[u8]) -> Option<u32>
+    ensures { result ≡ positive_of word.now }
+{
+    match read_number(word, 1, 4_294_967_295) {
+        Some(number) => Some(number as u32),
+        None => None,
+    }
+}
+
+/// The length of a prefix, 0 to 32.
+pub(crate) fn length_of(word: &[u8]) -> Option<u8>
+    ensures { result ≡ length_of word.now }
+{
+    match read_number(word, 0, 32) {
+        Some(number) => Some(number as u8),
+        None => None,
+    }
+}
+
+/// PFX: an address, `/` and a length from 0 to 32; the bits past the length are cleared.
+pub(crate) fn masked_prefix_of(word: &[u8]) -> Option<Prefix>
+    ensures { result ≡ masked_prefix_of word.now }
+{
+    let (_address, prefix) = read_interface(word)?;
+    Some(prefix)
+}
+
+fn half_of(word: &[u8]) -> Option<u32>
+    ensures value { result ≡ half_of word.now }
+    ensures fits { IfSome result (λ half. half ≤ 65535) }
+{
+    match read_number(word, 0, 65_535) {
+        Some(half) => Some(half as u32),
+        None => None,
+    }
+}
+
+// Two halves joined by `:`.
+fn pair_of(word: &[u8]) -> Option<u32>
+    ensures { result ≡ community_of_parts (parts 58 word.now) }
+{
+    let (first, second) = cut(word, b':')?;
+    if let Some((_second, _third)) = cut(second, b':') {
+        return None;
+    }
+    let high = half_of(first)?;
+    let low = half_of(second)?;
+    Some(high * 65_536 + low)
+}
+
+/// COMM: two numbers from 0 to 65,535 joined by `:`, of which the first counts 65,536 times, or the name
+/// of a well-known community (RFC 1997).
+pub(crate) fn community_of(word: &[u8]) -> Option<u32>
+    ensures { result ≡ community_of word.now }
+{
+    if is_word(b"no-export", word) {
+        Some(0xFFFF_FF01)
+    } else if is_word(b"no-advertise", word) {
+        Some(0xFFFF_FF02)
+    } else {
+        pair_of(word)
+    }
+}
+
+/// A number from 0 to 4,294,967,295.
+pub(crate) fn u32_of(word: &[u8]) -> Option<u32>
+    ensures { result ≡ u32_of word.now }
+{
+    match read_number(word, 0, 4_294_967_295) {
+        Some(number) => Some(number as u32),
+        None => None,
+    }
+}
+
+/// A sequence number of a route map, 1 to 65,535.
+pub(crate) fn map_number_of(word: &[u8]) -> Option<u16>
+    ensures { result ≡ map_number_of word.now }
+{
+    match read_number(word, 1, 65_535) {
+        Some(number) => Some(number as u16),
+        None => None,
+    }
+}
+
+/// The origin of a route.
+pub(crate) fn origin_of(word: &[u8]) -> Option<Origin>
+    ensures { result ≡ origin_of word.now }
+{
+    if is_word(b"igp", word) {
+        Some(Origin::Igp)
+    } else if is_word(b"egp", word) {
+        Some(Origin::Egp)
+    } else if is_word(b"incomplete", word) {
+        Some(Origin::Incomplete)
+    } else {
+        None
+    }
+}

@@ -1,0 +1,231 @@
+-- The network of configurations is what `IsNetworkOf` says.
+use Rattle.std.proofs.Common.{ℕ, zero, suc, ◌≡◌, ◌+◌, ◌≤◌, ◌<◌, ◌==◌, ◌&&◌, ◌||◌, ◌⊎◌, inl, inr, ⊎_elim, min, Bool, true, false, not, cond, ltb, List, [], ◌∷◌, map, fold, length, refl, ap, sym, subst, ◌∙◌, arith, add-zero, zero-add, Contains, All, AllPairs, Option, Some, None}
+use Rattle.std.specs.List.{list_any, position_or_len, insert, filter, filter_map, slice_get, AllByRecursion}
+use Rattle.std.specs.Option.{IfSome}
+use Rattle.std.specs.Prelude.{Result, Ok, Err}
+use Rattle.std.specs.Result.{IfOk}
+use Rattle.std.proofs.lemmas.Bool.{false≢true}
+use Rattle.std.proofs.lemmas.Bool.Decides.{nat_tests}
+use Rattle.std.proofs.lemmas.List.Elements.{All-from_recursion}
+use Rattle.net_types.specs.PrefixValue.{PrefixValue}
+use Rattle.net_types.specs.Prefixes.{same_prefix, prefix_before}
+use Rattle.net_types.specs.Order.{same_text, text_before}
+use Rattle.net_types.specs.NetValue.{NetValue}
+use Rattle.net_types.specs.declared.config.RouterConfig.{RouterConfig}
+use Rattle.net_types.specs.declared.network.Router.{Router}
+use Rattle.net_types.specs.declared.network.Link.{Link}
+use Rattle.net_types.specs.declared.network.Owned.{Owned}
+use Rattle.topology.specs.declared.interfaces.Port.{Port}
+use Rattle.topology.specs.declared.groups.Group.{Group}
+use Rattle.topology.specs.declared.groups.Group.TheVariants.{Alone, Joined, Shared}
+use Rattle.topology.specs.declared.groups.Wire.{Wire}
+use Rattle.topology.specs.Ascending.{is_there, put, ascending, ascending_prefixes}
+use Rattle.topology.specs.Live.{in_order, ports, can_link, same_host, host_before}
+use Rattle.topology.specs.Groups.{group, is_in, joined, kind_of, kind_at, subnets_of, wire_of, wires, link_of, links}
+use Rattle.topology.specs.Owning.{stubs, stub_cost, lesser, least, least_cost, owned_of, prefixes_of, owned_by, routers_from}
+use Rattle.net_types.specs.declared.refusals.NetRefusal.{NetRefusal}
+use Rattle.topology.specs.Network.{Answers, unless, net_of}
+use Rattle.topology.specs.Meaning.{IsAscending, AreLinked, IsLinkOf, AreLinks, RunsOspfAt, IsLeastCost, AreOwned, IsNetworkOf}
+use Rattle.topology.proofs.MapLemmas.{put-there, put-new, list_any-map}
+use Rattle.topology.proofs.RisingLemmas.{All-filter_map, All-map}
+use Rattle.topology.proofs.OrderLaws.{prefix_order, text_order}
+use Rattle.topology.proofs.LinkLemmas.{subnets-links}
+use Rattle.topology.proofs.TwinLemmas.{same_text-equal}
+use Rattle.topology.proofs.MemberLemmas.{In, Contains-from_In, In-from_Contains, In-map, In-filter, from-filter, In-filter_map, In-ascending, All-from_In, IsAscending-ascending}
+
+same_prefix-equal : (p q : PrefixValue) → same_prefix p q ≡ true → p ≡ q
+same_prefix-equal p q h =
+    let bits : p.bits ≡ q.bits = both-bits p.bits p.len q.bits q.len h in
+    let len : p.len ≡ q.len = both-len p.bits p.len q.bits q.len h in
+    λ i. record { bits = bits i; len = len i } where
+      both-bits : (a b c d : ℕ) → ((a == c) && (b == d)) ≡ true → a ≡ c
+      both-bits a b c d h = grind (arith, nat_tests)
+
+      both-len : (a b c d : ℕ) → ((a == c) && (b == d)) ≡ true → b ≡ d
+      both-len a b c d h = grind (arith, nat_tests)
+
+same_prefix-itself : (p : PrefixValue) → same_prefix p p ≡ true
+same_prefix-itself p = same p.bits p.len where
+  same : (a b : ℕ) → ((a == a) && (b == b)) ≡ true
+  same a b = grind (arith, nat_tests)
+
+-- seen through a function, an ascending list is the ascending list of what is seen
+map-fold : {A B : Type 0} (f : A → B) (same before : B → B → Bool) (xs done : List A) → map f (fold (λ done x. put (λ a b. same (f a) (f b)) (λ a b. before (f a) (f b)) done x) done xs) ≡ fold (λ done x. put same before done x) (map f done) (map f xs)
+map-fold f same before [] done = refl
+map-fold f same before (x ∷ xs) done = map-fold f same before xs (put (λ a b. same (f a) (f b)) (λ a b. before (f a) (f b)) done x) ∙ ap (λ ys. fold (λ done x. put same before done x) ys (map f xs)) (go (list_any (λ y. same (f y) (f x)) done) refl) where
+  go : (b : Bool) → list_any (λ y. same (f y) (f x)) done ≡ b → map f (cond (list_any (λ y. same (f y) (f x)) done) done (insert done (position_or_len (λ y. before (f x) (f y)) done) x)) ≡ put same before (map f done) (f x)
+  go true e = rw e (sym (put-there f same before done x e))
+  go false e = rw e (sym (put-new f same before done x e))
+
+hosts-in_order : (configs : List RouterConfig) → map (λ (config : RouterConfig). config.host) (in_order configs) ≡ ascending same_text text_before (map (λ (config : RouterConfig). config.host) configs)
+hosts-in_order configs = map-fold (λ (config : RouterConfig). config.host) same_text text_before configs []
+
+hosts-routers_from : (all : List Port) (k : ℕ) (configs : List RouterConfig) → map (λ (router : Router). router.host) (routers_from all k configs) ≡ map (λ (config : RouterConfig). config.host) configs
+hosts-routers_from all k [] = refl
+hosts-routers_from all k (config ∷ configs) = ap (λ hs. config.host ∷ hs) (hosts-routers_from all (k + 1) configs)
+
+-- links
+link-at : (all : List Port) (subnet : PrefixValue) (found : List Port) → group all subnet ≡ found → IfSome (wire_of subnet (kind_of found)) (λ wire. IsLinkOf all (link_of wire))
+link-at all subnet [] e = tt
+link-at all subnet (a ∷ []) e = tt
+link-at all subnet (a ∷ b ∷ []) e = go (ltb a.router b.router) refl (ltb b.router a.router) refl where
+  go : (s : Bool) → ltb a.router b.router ≡ s → (t : Bool) → ltb b.router a.router ≡ t → IfSome (wire_of subnet (cond s (Joined a b) (cond t (Joined b a) Shared))) (λ wire. IsLinkOf all (link_of wire))
+  go true s t q = record { low = a; high = b; linked = record { pair = inl e; order = grind (arith, nat_tests) }; is = refl }
+  go false s true q = record { low = b; high = a; linked = record { pair = inr e; order = grind (arith, nat_tests) }; is = refl }
+  go false s false q = tt
+link-at all subnet (a ∷ b ∷ c ∷ more) e = tt
+
+every : {A : Type 0} (xs : List A) → AllByRecursion (λ _. Unit {0}) xs
+every [] = tt
+every (x ∷ xs) = (tt, every xs)
+
+each-link : (all : List Port) → All (IsLinkOf all) (links all)
+each-link all = All-from_recursion (IsLinkOf all) (links all) (All-map (λ wire. link_of wire) (IsLinkOf all) (wires all)
+    (All-filter_map (λ subnet. wire_of subnet (kind_at all subnet)) (λ _. Unit {0}) (λ wire. IsLinkOf all (link_of wire)) (λ subnet _. link-at all subnet (group all subnet) refl) (subnets_of all) (every (subnets_of all))))
+
+joined-low : (a b : Port) → a.router < b.router → joined a b ≡ Joined a b
+joined-low a b l = let t : ltb a.router b.router ≡ true = grind (arith, nat_tests) in rw t refl
+
+joined-high : (a b : Port) → a.router < b.router → joined b a ≡ Joined a b
+joined-high a b l = let f : ltb b.router a.router ≡ false = grind (arith, nat_tests) in let t : ltb a.router b.router ≡ true = grind (arith, nat_tests) in rw (f, t) refl
+
+kind-linked : (all : List Port) (subnet : PrefixValue) (low high : Port) → AreLinked all subnet low high → kind_at all subnet ≡ Joined low high
+kind-linked all subnet low high h = ⊎_elim (λ e. ap (λ g. kind_of g) e ∙ joined-low low high h.order) (λ e. ap (λ g. kind_of g) e ∙ joined-high low high h.order) h.pair
+
+and-left : (a b : Bool) → (a && b) ≡ true → a ≡ true
+and-left true b h = refl
+and-left false b h = h
+
+and-right : (a b : Bool) → (a && b) ≡ true → b ≡ true
+and-right true b h = h
+and-right false b h = absurd (false≢true h)
+
+subnet-linked : (all : List Port) (subnet : PrefixValue) (low high : Port) → AreLinked all subnet low high → In subnet (subnets_of all)
+subnet-linked all subnet low high h = from (⊎_elim (λ e. rw e (inl refl)) (λ e. rw e (inr (inl refl))) h.pair) where
+  from : In low (group all subnet) → In subnet (subnets_of all)
+  from i =
+      let j = from-filter (λ port. is_in subnet port) low all i in
+      let ends = and-left (can_link low.loopback low.subnet) (same_prefix low.subnet subnet) j.1 in
+      let one = same_prefix-equal low.subnet subnet (and-right (can_link low.loopback low.subnet) (same_prefix low.subnet subnet) j.1) in
+      rw (← one) (In-ascending same_prefix prefix_before same_prefix-equal low.subnet (map (λ port. port.subnet) (filter (λ port. can_link port.loopback port.subnet) all))
+      (In-map (λ port. port.subnet) low (filter (λ port. can_link port.loopback port.subnet) all) (In-filter (λ port. can_link port.loopback port.subnet) low all j.0 ends)))
+
+complete-links : (all : List Port) (subnet : PrefixValue) (low high : Port) → AreLinked all subnet low high → Contains (links all) (link_of (record { subnet = subnet; low = low; high = high }))
+complete-links all subnet low high h =
+    let wire : Wire = record { subnet = subnet; low = low; high = high } in
+    Contains-from_In (link_of wire) (links all) (In-map (λ wire. link_of wire) wire (wires all)
+    (In-filter_map (λ subnet. wire_of subnet (kind_at all subnet)) subnet wire (subnets_of all) (subnet-linked all subnet low high h) (ap (λ k. wire_of subnet k) (kind-linked all subnet low high h))))
+
+-- costs
+-- the least of numbers that begin with a start
+abbrev IsLeastFrom : Option ℕ → List ℕ → Option ℕ → Type 0
+IsLeastFrom start numbers None = (start ≡ None) × ((n : ℕ) → In n numbers → ⊥)
+IsLeastFrom start numbers (Some c) = ((start ≡ Some c) ⊎ In c numbers) × ((n : ℕ) → (start ≡ Some n) ⊎ In n numbers → c ≤ n)
+
+none_some : {R : Type 0} (n : ℕ) → None ≡ Some n → R
+none_some n e = absurd (false≢true cc)
+
+some_none : {R : Type 0} (n : ℕ) → Some n ≡ None → R
+some_none n e = absurd (false≢true cc)
+
+same_some : (m n : ℕ) → Some m ≡ Some n → m ≡ n
+same_some m n e = cc
+
+least-step : (start : Option ℕ) (n : ℕ) (ns : List ℕ) (found : Option ℕ) → IsLeastFrom (lesser start n) ns found → IsLeastFrom start (n ∷ ns) found
+least-step None n ns None h = some_none n h.0
+least-step (Some m) n ns None h = some_none (min m n) h.0
+least-step None n ns (Some c) h = (⊎_elim (λ e. inr (inl (same_some n c e))) (λ i. inr (inr i)) h.0, λ k q. ⊎_elim (λ e. none_some k e) (λ i. ⊎_elim (λ e. h.1 k (inl (ap (λ x. Some x) e))) (λ j. h.1 k (inr j)) i) q)
+least-step (Some m) n ns (Some c) h = (⊎_elim (λ e. which (same_some (min m n) c e)) (λ i. inr (inr i)) h.0, λ k q. ⊎_elim (λ e. at_most (same_some m k e) (h.1 (min m n) (inl refl))) (λ i. ⊎_elim (λ e. at_most' e (h.1 (min m n) (inl refl))) (λ j. h.1 k (inr j)) i) q) where
+  which : min m n ≡ c → (Some m ≡ Some c) ⊎ ((n ≡ c) ⊎ In c ns)
+  which e = go (ltb m n) refl where
+    go : (b : Bool) → ltb m n ≡ b → (Some m ≡ Some c) ⊎ ((n ≡ c) ⊎ In c ns)
+    go true t = let l : m < n = grind (arith, nat_tests) in inl (ap (λ x. Some x) (let q : m ≡ c = omega arith in q))
+    go false t = let l : n ≤ m = grind (arith, nat_tests) in inr (inl (omega arith))
+
+  at_most : {k : ℕ} → m ≡ k → c ≤ min m n → c ≤ k
+  at_most e l = omega arith
+
+  at_most' : {k : ℕ} → n ≡ k → c ≤ min m n → c ≤ k
+  at_most' e l = omega arith
+
+least-from : (start : Option ℕ) (numbers : List ℕ) → IsLeastFrom start numbers (fold (λ least n. lesser least n) start numbers)
+least-from None [] = (refl, λ n i. i)
+least-from (Some c) [] = (inl refl, λ n q. ⊎_elim (λ e. let f = same_some c n e in omega arith) (λ i. absurd i) q)
+least-from start (n ∷ ns) = least-step start n ns (fold (λ least n. lesser least n) (lesser start n) ns) (least-from (lesser start n) ns)
+
+from-map : {A B : Type 0} (f : A → B) (y : B) (xs : List A) → In y (map f xs) → (x : A) × In x xs × (f x ≡ y)
+from-map f y [] h = absurd h
+from-map f y (x ∷ xs) h = ⊎_elim (λ e. (x, inl refl, e)) (λ i. let w = from-map f y xs i in (w.0, inr w.1, w.2)) h
+
+-- the test for a stub of the prefix that runs OSPF
+abbrev runs_at : PrefixValue → Port → Bool
+runs_at prefix port = port.ospf && same_prefix port.subnet prefix
+
+test-from_runs : (prefix : PrefixValue) (port : Port) → RunsOspfAt prefix port → runs_at prefix port ≡ true
+test-from_runs prefix port r = rw (r.runs, r.subnet) (same_prefix-itself prefix)
+
+runs-from_test : (prefix : PrefixValue) (port : Port) → runs_at prefix port ≡ true → RunsOspfAt prefix port
+runs-from_test prefix port t = record { runs = and-left port.ospf (same_prefix port.subnet prefix) t; subnet = same_prefix-equal port.subnet prefix (and-right port.ospf (same_prefix port.subnet prefix) t) }
+
+cost-in : (stubs : List Port) (prefix : PrefixValue) (port : Port) → Contains stubs port → RunsOspfAt prefix port → In (stub_cost port) (map (λ port. stub_cost port) (filter (λ port. runs_at prefix port) stubs))
+cost-in stubs prefix port i r = In-map (λ port. stub_cost port) port (filter (λ port. runs_at prefix port) stubs) (In-filter (λ port. runs_at prefix port) port stubs (In-from_Contains port stubs i) (test-from_runs prefix port r))
+
+least_cost-from : (stubs : List Port) (prefix : PrefixValue) (found : Option ℕ) → IsLeastFrom None (map (λ port. stub_cost port) (filter (λ port. runs_at prefix port) stubs)) found → IsLeastCost stubs prefix found
+least_cost-from stubs prefix None h = λ port i r. h.1 (stub_cost port) (cost-in stubs prefix port i r)
+least_cost-from stubs prefix (Some c) h = (⊎_elim (λ e. none_some c e) found h.0, λ port i r. h.1 (stub_cost port) (inr (cost-in stubs prefix port i r))) where
+  found : In c (map (λ port. stub_cost port) (filter (λ port. runs_at prefix port) stubs)) → (port : Port) × Contains stubs port × RunsOspfAt prefix port × (stub_cost port ≡ c)
+  found i =
+      let w = from-map (λ port. stub_cost port) c (filter (λ port. runs_at prefix port) stubs) i in
+      let k = from-filter (λ port. runs_at prefix port) w.0 stubs w.1 in
+      (w.0, Contains-from_In w.0 stubs k.0, runs-from_test prefix w.0 k.1, w.2)
+
+IsLeastCost-least_cost : (stubs : List Port) (prefix : PrefixValue) → IsLeastCost stubs prefix (least_cost stubs prefix)
+IsLeastCost-least_cost stubs prefix = least_cost-from stubs prefix (least_cost stubs prefix) (least-from None (map (λ port. stub_cost port) (filter (λ port. runs_at prefix port) stubs)))
+
+-- what a router owns
+prefixes-map : (of : List Port) (prefixes : List PrefixValue) → map (λ (entry : Owned). entry.prefix) (map (λ prefix. owned_of of prefix) prefixes) ≡ prefixes
+prefixes-map of [] = refl
+prefixes-map of (p ∷ ps) = ap (λ qs. p ∷ qs) (prefixes-map of ps)
+
+each-owned : (of : List Port) (prefixes : List PrefixValue) → AllByRecursion (λ prefix. IsLeastCost of prefix (least_cost of prefix)) prefixes
+each-owned of [] = tt
+each-owned of (p ∷ ps) = (IsLeastCost-least_cost of p, each-owned of ps)
+
+each-kind : (of : List Port) (prefixes : List PrefixValue) → AllByRecursion (λ prefix. ((owned_of of prefix).network ≡ false) × ((owned_of of prefix).stub ≡ true)) prefixes
+each-kind of [] = tt
+each-kind of (p ∷ ps) = ((refl, refl), each-kind of ps)
+
+AreOwned-owned_by : (of : List Port) → AreOwned of (owned_by of)
+AreOwned-owned_by of = record {
+  prefixes = rw (prefixes-map of (prefixes_of of)) (IsAscending-ascending same_prefix prefix_before prefix_order same_prefix-equal (map (λ port. port.subnet) of));
+  costs = All-from_recursion (λ (entry : Owned). IsLeastCost of entry.prefix entry.ospf_cost) (owned_by of) (All-map (λ prefix. owned_of of prefix) (λ (entry : Owned). IsLeastCost of entry.prefix entry.ospf_cost) (prefixes_of of) (each-owned of (prefixes_of of)));
+  kinds = All-from_recursion (λ (entry : Owned). (entry.network ≡ false) × (entry.stub ≡ true)) (owned_by of) (All-map (λ prefix. owned_of of prefix) (λ (entry : Owned). (entry.network ≡ false) × (entry.stub ≡ true)) (prefixes_of of) (each-kind of (prefixes_of of)));
+}
+
+owned-at : (all : List Port) (m k : ℕ) (configs : List RouterConfig) (router : Router) → slice_get (routers_from all m configs) k ≡ Some router → router.owned ≡ owned_by (stubs all (m + k))
+owned-at all m k [] router e = absurd (none router e) where
+  none : (r : Router) → None ≡ Some r → ⊥
+  none r e = cc
+owned-at all m zero (config ∷ configs) router e = rw add-zero (sym (ap (λ (r : Router). r.owned) (same e))) where
+  same : {a b : Router} → Some a ≡ Some b → a ≡ b
+  same e = cc
+owned-at all m (suc k) (config ∷ configs) router e = let n : m + suc k ≡ m + 1 + k = omega arith in rw n (owned-at all (m + 1) k configs router e)
+
+pub IsNetworkOf-net_of : (configs : List RouterConfig) → IsNetworkOf configs (net_of configs)
+IsNetworkOf-net_of configs = record {
+  hosts = rw (hosts-routers_from (ports configs) 0 (in_order configs), hosts-in_order configs) (IsAscending-ascending same_text text_before text_order same_text-equal (map (λ (config : RouterConfig). config.host) configs));
+  links = record { rise = subnets-links (ports configs); each = each-link (ports configs); complete = complete-links (ports configs) };
+  owned = λ k router e. let o : router.owned ≡ owned_by (stubs (ports configs) k) = owned-at (ports configs) 0 k (in_order configs) router e ∙ ap (λ n. owned_by (stubs (ports configs) n)) (zero-add k) in rw o (AreOwned-owned_by (stubs (ports configs) k));
+}
+
+-- the same of an answer, whatever refusals were tried
+pub IsNetworkOf-answer : (configs : List RouterConfig) (tried : List (Option NetRefusal)) (answer : Result NetValue NetRefusal) → Answers (unless tried (net_of configs)) answer → IfOk answer (λ net. IsNetworkOf configs net)
+IsNetworkOf-answer configs tried (Err refusal) e = tt
+IsNetworkOf-answer configs tried (Ok net) e = let P : NetValue → Type 0 = λ n. IsNetworkOf configs n in subst P (value tried e) (IsNetworkOf-net_of configs) where
+  same : (m n : NetValue) → (let r : Result NetValue NetRefusal = Ok m in r) ≡ Ok n → m ≡ n
+  same m n e = cc
+
+  value : (rs : List (Option NetRefusal)) → unless rs (net_of configs) ≡ Ok net → net_of configs ≡ net
+  value [] e = same (net_of configs) net e
+  value (Some r ∷ rs) e = absurd (false≢true cc)
+  value (None ∷ rs) e = value rs e

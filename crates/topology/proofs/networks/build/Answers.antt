@@ -1,0 +1,21 @@
+use Rattle.topology.proofs.TwinLemmas.{named-host, no-host, named-address, no-address, names-whole}
+use Rattle.topology.specs.Network.{whole_refusals}
+use Rattle.topology.proofs.MeaningLemmas.{IsNetworkOf-answer}
+use Rattle.topology.proofs.networks.build.Goals as goal
+
+pub returns-in-Some-clause-least_pair : goal.returns-in-Some-clause-least_pair
+returns-in-Some-clause-least_pair c = named-host c.args.configs.now c.host_pair.result c.in-Some.i c.in-Some.j c.host_pair.ensures c.in-Some.is
+
+pub returns-in-Some-address_pair-clause-least_pair : goal.returns-in-Some-address_pair-clause-least_pair
+returns-in-Some-address_pair-clause-least_pair c =
+    (no-host c.args.configs.now c.host_pair.result c.host_pair.ensures c.in_default.not-Some, named-address c.args.configs.now c.address_pair.result c.in-Some-address_pair.i c.in-Some-address_pair.j c.address_pair.ensures c.in-Some-address_pair.is)
+
+pub returns-clause-least_pair : goal.returns-clause-least_pair
+returns-clause-least_pair c =
+    names-whole c.args.configs.now c.whole.result
+    (no-host c.args.configs.now c.host_pair.result c.host_pair.ensures c.in_default.not-Some)
+    (no-address c.args.configs.now c.address_pair.result c.address_pair.ensures c.in_default-address_pair.not-Some)
+    c.whole.ensures
+
+pub returns-clause-network : goal.returns-clause-network
+returns-clause-network c = IsNetworkOf-answer c.args.configs.now (whole_refusals c.args.configs.now) c.whole.result c.whole.ensures
