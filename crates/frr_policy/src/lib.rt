@@ -4,8 +4,9 @@
 //! Decides: what the words of a line are, and what entry a line of a list or a map makes, or why it is
 //! refused. Which line stands in which block of a file, `frr_reader` decides.
 //! Stands on: `net_types` alone.
-//! Promises: each reader answers the entry of the line's row in the line table (`specs/Rows.antt`), or
-//! the first refusal that stands. Not: that the lists and maps that a line names are there.
+//! Promises: each reader answers the entry that the line's row makes, or the first refusal that stands
+//! (`specs/PrefixLines.antt`, `specs/CommunityLines.antt`, and the table of `specs/MapLines.antt`); an
+//! entry fits its list or map. Not: that the lists and maps that a line names are there.
 #![tactic(auto)]
 
 mod blanks;

@@ -85,18 +85,18 @@ distances_are_one net prefix failed a b x y =
     one_distance net prefix failed u (distance_at a u) (distance_at b u) (x.each u in_net) (y.each u in_net))
 
 -- how many entries are at most d
-unfoldable within : ℕ → List (Option ℕ) → ℕ
+unfoldable pub within : ℕ → List (Option ℕ) → ℕ
 within d [] = 0
 within d (None ∷ ds) = within d ds
 within d (Some x ∷ ds) = (1 - (x - d)) + within d ds
 
-within_few : (d : ℕ) (ds : List (Option ℕ)) → within d ds ≤ length ds
+pub within_few : (d : ℕ) (ds : List (Option ℕ)) → within d ds ≤ length ds
 unfolding within
 within_few d [] = omega arith
 within_few d (None ∷ ds) = let i = within_few d ds in omega arith
 within_few d (Some x ∷ ds) = let i = within_few d ds in omega arith
 
-within_some : (ds : List (Option ℕ)) (u d : ℕ) → distance_at ds u ≡ Some d → 1 ≤ within d ds
+pub within_some : (ds : List (Option ℕ)) (u d : ℕ) → distance_at ds u ≡ Some d → 1 ≤ within d ds
 unfolding within
 within_some [] u d is = cc
 within_some (None ∷ ds) zero d is = cc
@@ -111,7 +111,7 @@ within_up (None ∷ ds) m d le = within_up ds m d le
 within_up (Some x ∷ ds) m d le = let i = within_up ds m d le in omega arith
 
 -- an entry counts among those at most itself, and not among those at most less
-within_less : (ds : List (Option ℕ)) (u m d : ℕ) → distance_at ds u ≡ Some d → m < d → within m ds + 1 ≤ within d ds
+pub within_less : (ds : List (Option ℕ)) (u m d : ℕ) → distance_at ds u ≡ Some d → m < d → within m ds + 1 ≤ within d ds
 unfolding within
 within_less [] u m d is less = cc
 within_less (None ∷ ds) zero m d is less = cc

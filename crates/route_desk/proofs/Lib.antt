@@ -4,3 +4,5 @@ pub mod NameLemmas
 pub mod FolderLemmas
 pub mod StopLemmas
 pub mod RunLemmas
+pub mod ForwardLemmas
+pub mod HoldsLemmas

@@ -68,6 +68,10 @@ abbrev pub is_analysed : Kind → ℕ → Bool
 is_analysed Reach failures = failures == 0
 is_analysed _ failures = false
 
+-- a property of a book: it asks what can be asked
+abbrev pub IsAsked : Property → Type 0
+IsAsked property = is_analysed property.kind property.failures ≡ true
+
 -- the table has the fields of such a property, which can be asked
 abbrev pub fits : Members → Kind → ℕ → Bool
 fits fields kind failures = are_fields (is_waypoint kind) fields && is_analysed kind failures

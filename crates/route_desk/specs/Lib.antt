@@ -7,3 +7,5 @@ pub mod Folder
 pub mod Stops
 pub mod Ending
 pub mod Running
+pub mod Forwarding
+pub mod Meaning

@@ -15,6 +15,7 @@ use Rattle.route_desk.specs.declared.verdict.Verdict.{Verdict}
 use Rattle.route_desk.specs.declared.verdict.Verdict.TheVariants.{Certified, NotCertified, NotApplicable}
 use Rattle.route_desk.specs.declared.verdict.Outcome.{Outcome}
 use Rattle.route_desk.specs.Applicable.{barred, number_of}
+use Rattle.route_desk.specs.Meaning.{HoldsIfCertified}
 
 -- some walk of adjacencies leads from the router to an OSPF stub of the prefix
 abbrev pub HasWalk : NetValue → PrefixValue → ℕ → Type 0
@@ -65,8 +66,10 @@ distinct_count (prefix ∷ more) = (if list_any (same_prefix prefix) more then 0
 abbrev pub case_count : NetValue → Seq Property → ℕ
 case_count net book = distinct_count (asked_prefixes net book)
 
--- what is found of a book: a verdict for each property, and all cases solved
+-- what is found of a book: a verdict for each property, where each property with a certificate holds, and
+-- all cases solved
 pub record IsOutcome (net : NetValue) (book : Seq Property) (outcome : Outcome) : Type 0 where
   pub verdicts : AllZip (IsVerdict net) book outcome.verdicts
+  pub holds : AllZip (HoldsIfCertified net) book outcome.verdicts
   pub solved : outcome.solved ≡ case_count net book
   pub total : outcome.total ≡ case_count net book

@@ -1,9 +1,9 @@
 //! Reads the property file.
 
-ghost use Rattle.std.specs.Prelude.{◌≡◌, ◌≤◌, ◌<◌, ◌+◌, [], IfOk, IfErr, Ok, Err, Some, None, option_map, option_and_then, length, codes, if◌then◌else◌};
+ghost use Rattle.std.specs.Prelude.{◌≡◌, ◌≤◌, ◌<◌, ◌+◌, [], IfOk, IfErr, IfSome, All, Ok, Err, Some, None, option_map, option_and_then, length, codes, if◌then◌else◌};
 ghost use Rattle.toml.specs.Data.{as_integer, get_member};
 ghost use Rattle.toml.specs.View.{table_view, array_view, view};
-ghost use Rattle.route_desk.specs.Book.{Answers, fits, are_fields, are_tables, book_of, failures_at, host_at, first_repeat, is_analysed, is_field, is_named_in, is_waypoint, kind_at, kind_of, prefix_at, properties_from, property_in, property_of, same_word, tables_of, text_at, with_names, book_of_tables, has_only_property, if_tables, tables_in};
+ghost use Rattle.route_desk.specs.Book.{Answers, IsAsked, fits, are_fields, are_tables, book_of, failures_at, host_at, first_repeat, is_analysed, is_field, is_named_in, is_waypoint, kind_at, kind_of, prefix_at, properties_from, property_in, property_of, same_word, tables_of, text_at, with_names, book_of_tables, has_only_property, if_tables, tables_in};
 
 use crate::property::{Kind, Property};
 use net_types::{FormRefusal, List, NoMemory, Prefix, Text, is_host};
@@ -173,7 +173,8 @@ fn fits(table: &Table, kind: &Kind, failures: u8) -> bool
 // The property of a table, where each of its fields is there, known and in range.
 #[tactic(auto, unfolding(crate::specs::Book::property_of))]
 fn property_of(alloc: Global, table: &Table) -> Result<Option<Property>, NoMemory>
-    ensures { IfOk result (λ property. property ≡ property_of (table_view table.now)) }
+    ensures value { IfOk result (λ property. property ≡ property_of (table_view table.now)) }
+    ensures asked { IfOk result (λ property. IfSome property IsAsked) }
 {
     let Some(name) = host_at(table, "name") else {
         return Ok(None);
@@ -198,7 +199,8 @@ fn property_of(alloc: Global, table: &Table) -> Result<Option<Property>, NoMemor
 
 // The property of a value, where it is a table of one.
 fn property_in(alloc: Global, value: &Value) -> Result<Option<Property>, NoMemory>
-    ensures { IfOk result (λ property. property ≡ property_in (view value.now)) }
+    ensures value { IfOk result (λ property. property ≡ property_in (view value.now)) }
+    ensures asked { IfOk result (λ property. IfSome property IsAsked) }
 {
     match value.as_table() {
         Some(table) => property_of(alloc, table),
@@ -219,7 +221,8 @@ fn are_tables(items: &Array) -> bool
 
 // The properties of the tables, or the place of the first that has none.
 fn properties(alloc: Global, items: &Array) -> Result<List<Property>, FormRefusal>
-    ensures { Answers (properties_from 1 (array_view items.now)) result }
+    ensures value { Answers (properties_from 1 (array_view items.now)) result }
+    ensures asked { IfOk result (λ book. All IsAsked book) }
 {
     let mut all = List::new(alloc);
     for (i, value) in items.iter().enumerate() {
@@ -252,7 +255,9 @@ fn first_repeat(properties: &[Property]) -> Option<u64>
 }
 
 fn with_names(properties: List<Property>) -> Result<List<Property>, FormRefusal>
-    ensures { result ≡ with_names (Ok properties) }
+    requires { All IsAsked properties }
+    ensures value { result ≡ with_names (Ok properties) }
+    ensures asked { IfOk result (λ book. All IsAsked book) }
 {
     if let Some(place) = first_repeat(properties.as_slice()) {
         return Err(FormRefusal::SameName(place));
@@ -276,7 +281,8 @@ fn has_only_property(top: &Table) -> bool
 
 // The properties of the tables of the array.
 fn book_of_array(alloc: Global, items: &Array) -> Result<List<Property>, FormRefusal>
-    ensures { Answers (book_of_tables (if_tables (array_view items.now))) result }
+    ensures value { Answers (book_of_tables (if_tables (array_view items.now))) result }
+    ensures asked { IfOk result (λ book. All IsAsked book) }
 {
     if !are_tables(items) {
         return Err(FormRefusal::BadField(0));
@@ -286,7 +292,8 @@ fn book_of_array(alloc: Global, items: &Array) -> Result<List<Property>, FormRef
 
 // The properties of the value of `property`.
 fn book_of_value(alloc: Global, value: &Value) -> Result<List<Property>, FormRefusal>
-    ensures { Answers (book_of_tables (tables_in (Some (view value.now)))) result }
+    ensures value { Answers (book_of_tables (tables_in (Some (view value.now)))) result }
+    ensures asked { IfOk result (λ book. All IsAsked book) }
 {
     match value.as_array() {
         Some(items) => book_of_array(alloc, items),
@@ -297,7 +304,8 @@ fn book_of_value(alloc: Global, value: &Value) -> Result<List<Property>, FormRef
 // The properties of a document's top level.
 #[tactic(auto, unfolding(crate::specs::Book::tables_of))]
 fn book_of_top(alloc: Global, top: &Table) -> Result<List<Property>, FormRefusal>
-    ensures { Answers (book_of_tables (tables_of (table_view top.now))) result }
+    ensures value { Answers (book_of_tables (tables_of (table_view top.now))) result }
+    ensures asked { IfOk result (λ book. All IsAsked book) }
 {
     if !has_only_property(top) {
         return Err(FormRefusal::BadField(0));
@@ -329,7 +337,8 @@ fn document(alloc: Global, text: &[u8]) -> Result<Table, FormRefusal>
 /// The properties of a property file, or its first refusal. A file without bytes has no properties.
 #[tactic(auto, unfolding(crate::specs::Book::book_of))]
 pub fn read_properties(alloc: Global, text: &[u8]) -> Result<List<Property>, FormRefusal>
-    ensures { Answers (book_of text.now) result }
+    ensures value { Answers (book_of text.now) result }
+    ensures asked { IfOk result (λ book. All IsAsked book) }
 {
     if text.len() > MOST_BYTES {
         return Err(FormRefusal::TooLong);

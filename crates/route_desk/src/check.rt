@@ -1,8 +1,9 @@
 //! The command `check`: the report of a change of configurations.
 
-ghost use Rattle.std.specs.Prelude.{◌≡◌, ◌≤◌, IfOk, Ok, Err, Some, codes, string_bytes, length};
+ghost use Rattle.std.specs.Prelude.{◌≡◌, ◌≤◌, All, IfOk, Ok, Err, Some, codes, string_bytes, length};
 ghost use Rattle.net_types.specs.NetValue.{NetValue};
 ghost use Rattle.outside.specs.Content.{Content};
+ghost use Rattle.route_desk.specs.Book.{IsAsked};
 ghost use Rattle.route_desk.specs.Ending.{Checks, IsReport, check_inputs, inputs_of, network_of, properties_of};
 ghost use Rattle.route_desk.specs.Refusals.{bundle_text, form_text, refused_line};
 ghost use Rattle.route_desk.specs.Stops.{Gives, HasCause, IsCalm, StopsAt};
@@ -85,6 +86,7 @@ fn network_of(alloc: Global, side: &str, files: &[SourceFile]) -> Result<Net, St
 // The book of a property file.
 #[tactic(auto, unfolding(crate::specs::Ending::properties_of))]
 fn properties_of(alloc: Global, text: &[u8]) -> Result<List<Property>, Stop>
+    ensures asked { IfOk result (λ book. All IsAsked book) }
     ensures gives { Gives (properties_of text.now) result }
     ensures calm { IsCalm result }
 {
@@ -103,6 +105,7 @@ fn inputs_of(
     properties: &[u8],
 ) -> Result<Inputs, Stop>
     ensures gives { Gives (inputs_of base.now new.now properties.now) result }
+    ensures asked { IfOk result (λ inputs. All IsAsked inputs.book) }
     ensures calm { IsCalm result }
 {
     let base = network_of(alloc, "base", base)?;
@@ -122,6 +125,7 @@ fn check_inputs<F: Shelf>(
 ) -> Result<Inputs, Stop>
     ensures cause { HasCause (F.faults shelf.old) (F.faults shelf.new) result }
     ensures told { (c : Content) → F.content shelf.old ≡ Some c → Gives (check_inputs c base.now new.now properties.now) result }
+    ensures asked { IfOk result (λ inputs. All IsAsked inputs.book) }
 {
     let base = read_folder(alloc, shelf, "base", base)?;
     let new = read_folder(alloc, shelf, "new", new)?;
@@ -140,6 +144,7 @@ pub struct Report {
 
 // The report of the inputs.
 fn report_on(alloc: Global, inputs: &Inputs) -> Result<Report, NoMemory>
+    requires { All IsAsked inputs.now.book }
     ensures { IfOk result (λ answer. IsReport inputs.now answer.text answer.certified) }
 {
     let book = inputs.book.as_slice();

@@ -16,6 +16,8 @@ mod report_text;
 mod run;
 mod status;
 mod stop;
+#[cfg(test)]
+mod tests;
 mod verdict;
 mod verdicts;
 

@@ -1,10 +1,12 @@
 //! The verdicts of a book in a network without sessions, with no failed link.
 
-ghost use Rattle.std.specs.Prelude.{◌≡◌, ◌<◌, ◌≤◌, ◌↔◌, ◌+◌, [], IfOk, IsTrue, Some, None, is_some, length, map, filter};
+ghost use Rattle.std.specs.Prelude.{◌≡◌, ◌<◌, ◌≤◌, ◌↔◌, ◌+◌, [], All, IfOk, IsTrue, Some, None, is_some, length, map, filter};
 ghost use Rattle.std.specs.List.{list_any};
 ghost use Rattle.net_types.specs.Prefixes.{same_prefix};
 ghost use Rattle.net_types.specs.Distance.{AreDistances, distance_at};
 ghost use Rattle.route_desk.specs.Applicable.{barred, number_of};
+ghost use Rattle.route_desk.specs.Book.{IsAsked};
+ghost use Rattle.route_desk.specs.Meaning.{HoldsIfCertified};
 ghost use Rattle.route_desk.specs.Verdicts.{HasSureRoute, IsOutcome, IsVerdict, Asks, applies, asked_prefixes, case_count, distinct_count};
 
 use crate::applicable::{applicable, number_of};
@@ -51,6 +53,17 @@ fn verdict_at(
     } else {
         Ok(Verdict::NotCertified(FailSet::empty(), Broken::NoSureRoute(router)))
     }
+}
+
+// A verdict whose property holds where it is a certificate.
+fn sound_verdict(alloc: Global, net: &Net, property: &Property) -> Result<Verdict, NoMemory>
+    requires { IsAsked property.now }
+    ensures verdict { IfOk result (λ verdict. IsVerdict net.now property.now verdict) }
+    ensures holds { IfOk result (λ verdict. HoldsIfCertified net.now property.now verdict) }
+{
+    net.valid();
+    let verdict = verdict_of(alloc, net, property)?;
+    Ok(verdict)
 }
 
 // The verdict of a property.
@@ -101,12 +114,13 @@ fn case_count(net: &Net, book: &[Property]) -> u64
 
 /// What is found of a book in a network without sessions.
 pub fn outcome_of(alloc: Global, net: &Net, book: &[Property]) -> Result<Outcome, NoMemory>
+    requires { All IsAsked book.now }
     ensures outcome { IfOk result (λ outcome. IsOutcome net.now book.now outcome) }
     ensures long { IfOk result (λ outcome. length outcome.verdicts ≡ length book.now) }
 {
     let mut verdicts = List::new(alloc);
     for property in book {
-        verdicts.push(verdict_of(alloc, net, property)?)?;
+        verdicts.push(sound_verdict(alloc, net, property)?)?;
     }
     let cases = case_count(net, book);
     Ok(Outcome {

@@ -10,3 +10,4 @@ pub mod PairLemmas
 pub mod TwinLemmas
 pub mod MemberLemmas
 pub mod MeaningLemmas
+pub mod WholeLemmas

@@ -1,8 +1,7 @@
 -- What is true of each link: its ends, and that links ascend by subnet.
-use Rattle.std.proofs.Common.{ℕ, ◌≡◌, ◌+◌, ◌≤◌, ◌<◌, ◌^◌, Bool, true, false, cond, ltb, List, [], ◌∷◌, length, map, refl, sym, arith, All, AllPairs}
-use Rattle.std.specs.List.{AllByRecursion, filter_map, filter}
+use Rattle.std.proofs.Common.{ℕ, ◌≡◌, ◌≤◌, ◌<◌, Bool, true, false, cond, ltb, List, [], ◌∷◌, length, map, refl, arith, All, AllPairs}
+use Rattle.std.specs.List.{AllByRecursion, filter}
 use Rattle.std.specs.Option.{IfSome}
-use Rattle.std.specs.Prelude.{Option, Some, None}
 use Rattle.std.proofs.lemmas.Bool.Decides.{nat_tests}
 use Rattle.std.proofs.lemmas.List.Elements.{All-from_recursion}
 use Rattle.net_types.specs.PrefixValue.{PrefixValue, IsPrefix}
@@ -14,10 +13,9 @@ use Rattle.topology.specs.declared.interfaces.Port.{Port}
 use Rattle.topology.specs.declared.groups.Group.{Group}
 use Rattle.topology.specs.declared.groups.Group.TheVariants.{Alone, Joined, Shared}
 use Rattle.topology.specs.declared.groups.Wire.{Wire}
-use Rattle.topology.specs.Ascending.{ascending_prefixes}
 use Rattle.topology.specs.Live.{can_link}
 use Rattle.topology.specs.Groups.{group, is_in, joined, kind_of, kind_at, subnets_of, wire_of, wires, link_of, links, end_of, IsNumbered}
-use Rattle.topology.proofs.RisingLemmas.{Rises, AllByRecursion-weaker, All-filter, All-map, All-filter_map, All-ascending, Rises-ascending, Rises-filter_map, Rises-map, AllPairs-from_rises}
+use Rattle.topology.proofs.RisingLemmas.{AllByRecursion-weaker, All-filter, All-map, All-filter_map, All-ascending, Rises-ascending, Rises-filter_map, Rises-map, AllPairs-from_rises}
 use Rattle.topology.proofs.OrderLaws.{prefix_order}
 use Rattle.topology.proofs.PortLemmas.{IsPort}
 

@@ -1,8 +1,8 @@
 -- Looking up and putting an item in a list that is seen through a function, as references are.
-use Rattle.std.proofs.Common.{ℕ, ◌≡◌, ◌+◌, ◌++◌, ◌||◌, Bool, true, false, not, cond, List, [], ◌∷◌, map, take, drop, refl, ap, ◌∙◌, arith}
+use Rattle.std.proofs.Common.{ℕ, ◌≡◌, ◌+◌, ◌||◌, Bool, true, false, not, cond, List, [], ◌∷◌, map, refl, ap}
 use Rattle.std.proofs.lemmas.List.{map-append, take-map, drop-map}
 use Rattle.std.specs.List.{list_any, position_or_len, insert}
-use Rattle.topology.specs.Ascending.{is_there, put}
+use Rattle.topology.specs.Ascending.{put}
 
 pub list_any-map : {A B : Type 0} (f : A → B) (p : B → Bool) (xs : List A) → list_any p (map f xs) ≡ list_any (λ x. p (f x)) xs
 list_any-map f p [] = refl

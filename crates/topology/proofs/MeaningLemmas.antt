@@ -1,6 +1,6 @@
 -- The network of configurations is what `IsNetworkOf` says.
-use Rattle.std.proofs.Common.{ℕ, zero, suc, ◌≡◌, ◌+◌, ◌≤◌, ◌<◌, ◌==◌, ◌&&◌, ◌||◌, ◌⊎◌, inl, inr, ⊎_elim, min, Bool, true, false, not, cond, ltb, List, [], ◌∷◌, map, fold, length, refl, ap, sym, subst, ◌∙◌, arith, add-zero, zero-add, Contains, All, AllPairs, Option, Some, None}
-use Rattle.std.specs.List.{list_any, position_or_len, insert, filter, filter_map, slice_get, AllByRecursion}
+use Rattle.std.proofs.Common.{ℕ, zero, suc, ◌≡◌, ◌+◌, ◌≤◌, ◌<◌, ◌==◌, ◌&&◌, ◌⊎◌, inl, inr, ⊎_elim, min, Bool, true, false, cond, ltb, List, [], ◌∷◌, map, fold, refl, ap, sym, subst, ◌∙◌, arith, add-zero, zero-add, Contains, All, Option, Some, None}
+use Rattle.std.specs.List.{list_any, position_or_len, insert, filter, slice_get, AllByRecursion}
 use Rattle.std.specs.Option.{IfSome}
 use Rattle.std.specs.Prelude.{Result, Ok, Err}
 use Rattle.std.specs.Result.{IfOk}
@@ -13,27 +13,25 @@ use Rattle.net_types.specs.Order.{same_text, text_before}
 use Rattle.net_types.specs.NetValue.{NetValue}
 use Rattle.net_types.specs.declared.config.RouterConfig.{RouterConfig}
 use Rattle.net_types.specs.declared.network.Router.{Router}
-use Rattle.net_types.specs.declared.network.Link.{Link}
 use Rattle.net_types.specs.declared.network.Owned.{Owned}
 use Rattle.topology.specs.declared.interfaces.Port.{Port}
-use Rattle.topology.specs.declared.groups.Group.{Group}
-use Rattle.topology.specs.declared.groups.Group.TheVariants.{Alone, Joined, Shared}
+use Rattle.topology.specs.declared.groups.Group.TheVariants.{Joined, Shared}
 use Rattle.topology.specs.declared.groups.Wire.{Wire}
-use Rattle.topology.specs.Ascending.{is_there, put, ascending, ascending_prefixes}
-use Rattle.topology.specs.Live.{in_order, ports, can_link, same_host, host_before}
+use Rattle.topology.specs.Ascending.{put, ascending}
+use Rattle.topology.specs.Live.{in_order, ports, can_link}
 use Rattle.topology.specs.Groups.{group, is_in, joined, kind_of, kind_at, subnets_of, wire_of, wires, link_of, links}
-use Rattle.topology.specs.Owning.{stubs, stub_cost, lesser, least, least_cost, owned_of, prefixes_of, owned_by, routers_from}
+use Rattle.topology.specs.Owning.{stubs, stub_cost, lesser, least_cost, owned_of, prefixes_of, owned_by, routers_from}
 use Rattle.net_types.specs.declared.refusals.NetRefusal.{NetRefusal}
 use Rattle.topology.specs.Network.{Answers, unless, net_of}
-use Rattle.topology.specs.Meaning.{IsAscending, AreLinked, IsLinkOf, AreLinks, RunsOspfAt, IsLeastCost, AreOwned, IsNetworkOf}
-use Rattle.topology.proofs.MapLemmas.{put-there, put-new, list_any-map}
+use Rattle.topology.specs.Meaning.{AreLinked, IsLinkOf, RunsOspfAt, IsLeastCost, AreOwned, IsNetworkOf}
+use Rattle.topology.proofs.MapLemmas.{put-there, put-new}
 use Rattle.topology.proofs.RisingLemmas.{All-filter_map, All-map}
 use Rattle.topology.proofs.OrderLaws.{prefix_order, text_order}
 use Rattle.topology.proofs.LinkLemmas.{subnets-links}
 use Rattle.topology.proofs.TwinLemmas.{same_text-equal}
-use Rattle.topology.proofs.MemberLemmas.{In, Contains-from_In, In-from_Contains, In-map, In-filter, from-filter, In-filter_map, In-ascending, All-from_In, IsAscending-ascending}
+use Rattle.topology.proofs.MemberLemmas.{In, Contains-from_In, In-from_Contains, In-map, In-filter, from-filter, In-filter_map, In-ascending, IsAscending-ascending}
 
-same_prefix-equal : (p q : PrefixValue) → same_prefix p q ≡ true → p ≡ q
+pub same_prefix-equal : (p q : PrefixValue) → same_prefix p q ≡ true → p ≡ q
 same_prefix-equal p q h =
     let bits : p.bits ≡ q.bits = both-bits p.bits p.len q.bits q.len h in
     let len : p.len ≡ q.len = both-len p.bits p.len q.bits q.len h in
@@ -44,7 +42,7 @@ same_prefix-equal p q h =
       both-len : (a b c d : ℕ) → ((a == c) && (b == d)) ≡ true → b ≡ d
       both-len a b c d h = grind (arith, nat_tests)
 
-same_prefix-itself : (p : PrefixValue) → same_prefix p p ≡ true
+pub same_prefix-itself : (p : PrefixValue) → same_prefix p p ≡ true
 same_prefix-itself p = same p.bits p.len where
   same : (a b : ℕ) → ((a == a) && (b == b)) ≡ true
   same a b = grind (arith, nat_tests)
@@ -92,23 +90,24 @@ joined-high a b l = let f : ltb b.router a.router ≡ false = grind (arith, nat_
 kind-linked : (all : List Port) (subnet : PrefixValue) (low high : Port) → AreLinked all subnet low high → kind_at all subnet ≡ Joined low high
 kind-linked all subnet low high h = ⊎_elim (λ e. ap (λ g. kind_of g) e ∙ joined-low low high h.order) (λ e. ap (λ g. kind_of g) e ∙ joined-high low high h.order) h.pair
 
-and-left : (a b : Bool) → (a && b) ≡ true → a ≡ true
+pub and-left : (a b : Bool) → (a && b) ≡ true → a ≡ true
 and-left true b h = refl
 and-left false b h = h
 
-and-right : (a b : Bool) → (a && b) ≡ true → b ≡ true
+pub and-right : (a b : Bool) → (a && b) ≡ true → b ≡ true
 and-right true b h = h
 and-right false b h = absurd (false≢true h)
 
+pub subnet-in : (all : List Port) (subnet : PrefixValue) (port : Port) → In port (group all subnet) → In subnet (subnets_of all)
+subnet-in all subnet port i =
+    let j = from-filter (λ port. is_in subnet port) port all i in
+    let ends = and-left (can_link port.loopback port.subnet) (same_prefix port.subnet subnet) j.1 in
+    let one = same_prefix-equal port.subnet subnet (and-right (can_link port.loopback port.subnet) (same_prefix port.subnet subnet) j.1) in
+    rw (← one) (In-ascending same_prefix prefix_before same_prefix-equal port.subnet (map (λ port. port.subnet) (filter (λ port. can_link port.loopback port.subnet) all))
+    (In-map (λ port. port.subnet) port (filter (λ port. can_link port.loopback port.subnet) all) (In-filter (λ port. can_link port.loopback port.subnet) port all j.0 ends)))
+
 subnet-linked : (all : List Port) (subnet : PrefixValue) (low high : Port) → AreLinked all subnet low high → In subnet (subnets_of all)
-subnet-linked all subnet low high h = from (⊎_elim (λ e. rw e (inl refl)) (λ e. rw e (inr (inl refl))) h.pair) where
-  from : In low (group all subnet) → In subnet (subnets_of all)
-  from i =
-      let j = from-filter (λ port. is_in subnet port) low all i in
-      let ends = and-left (can_link low.loopback low.subnet) (same_prefix low.subnet subnet) j.1 in
-      let one = same_prefix-equal low.subnet subnet (and-right (can_link low.loopback low.subnet) (same_prefix low.subnet subnet) j.1) in
-      rw (← one) (In-ascending same_prefix prefix_before same_prefix-equal low.subnet (map (λ port. port.subnet) (filter (λ port. can_link port.loopback port.subnet) all))
-      (In-map (λ port. port.subnet) low (filter (λ port. can_link port.loopback port.subnet) all) (In-filter (λ port. can_link port.loopback port.subnet) low all j.0 ends)))
+subnet-linked all subnet low high h = subnet-in all subnet low (⊎_elim (λ e. rw e (inl refl)) (λ e. rw e (inr (inl refl))) h.pair)
 
 complete-links : (all : List Port) (subnet : PrefixValue) (low high : Port) → AreLinked all subnet low high → Contains (links all) (link_of (record { subnet = subnet; low = low; high = high }))
 complete-links all subnet low high h =
@@ -153,7 +152,7 @@ least-from None [] = (refl, λ n i. i)
 least-from (Some c) [] = (inl refl, λ n q. ⊎_elim (λ e. let f = same_some c n e in omega arith) (λ i. absurd i) q)
 least-from start (n ∷ ns) = least-step start n ns (fold (λ least n. lesser least n) (lesser start n) ns) (least-from (lesser start n) ns)
 
-from-map : {A B : Type 0} (f : A → B) (y : B) (xs : List A) → In y (map f xs) → (x : A) × In x xs × (f x ≡ y)
+pub from-map : {A B : Type 0} (f : A → B) (y : B) (xs : List A) → In y (map f xs) → (x : A) × In x xs × (f x ≡ y)
 from-map f y [] h = absurd h
 from-map f y (x ∷ xs) h = ⊎_elim (λ e. (x, inl refl, e)) (λ i. let w = from-map f y xs i in (w.0, inr w.1, w.2)) h
 

@@ -1,5 +1,5 @@
 -- What is in a list, and in the lists that are made of it.
-use Rattle.std.proofs.Common.{ℕ, zero, suc, ◌≡◌, ◌+◌, ◌≤◌, ◌<◌, ◌||◌, ◌⊎◌, inl, inr, ⊎_elim, Bool, true, false, not, cond, List, [], ◌∷◌, map, fold, length, get_or, refl, ap, sym, ◌∙◌, arith, Contains, All, AllPairs, Option, Some, None}
+use Rattle.std.proofs.Common.{ℕ, zero, suc, ◌≡◌, ◌<◌, ◌||◌, ◌⊎◌, inl, inr, ⊎_elim, Bool, true, false, cond, List, [], ◌∷◌, map, fold, length, get_or, refl, ap, sym, subst, ◌∙◌, arith, Contains, All, Option, Some, None}
 use Rattle.std.specs.List.{list_any, position_or_len, insert, filter, filter_map, cons_option, AllByRecursion}
 use Rattle.std.proofs.lemmas.Bool.{false≢true}
 use Rattle.std.proofs.lemmas.List.Elements.{All-from_recursion, recursion_from_All, All-contains_itself}
@@ -81,6 +81,11 @@ In-fold same before one y (x ∷ xs) done h = In-fold same before one y xs (put 
 
 pub In-ascending : {A : Type 0} (same before : A → A → Bool) → ((a b : A) → same a b ≡ true → a ≡ b) → (y : A) (xs : List A) → In y xs → In y (ascending same before xs)
 In-ascending same before one y xs i = In-fold same before one y xs [] (inl i)
+
+-- what is true of each item is true of one of them
+pub in-all : {A : Type 0} (P : A → Type 0) (y : A) (xs : List A) → AllByRecursion P xs → In y xs → P y
+in-all P y [] a h = absurd h
+in-all P y (x ∷ xs) a h = ⊎_elim (λ e. subst P e a.0) (λ i. in-all P y xs a.1 i) h
 
 all-in : {A : Type 0} (xs : List A) (P : A → Type 0) → ((y : A) → In y xs → P y) → AllByRecursion P xs
 all-in [] P h = tt

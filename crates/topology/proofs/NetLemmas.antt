@@ -1,5 +1,5 @@
 -- The network of configurations is valid.
-use Rattle.std.proofs.Common.{ℕ, zero, suc, lit<, ◌≡◌, ◌+◌, ◌≤◌, ◌<◌, ◌^◌, List, [], ◌∷◌, length, refl, arith, All, AllPairs, Contains, map}
+use Rattle.std.proofs.Common.{ℕ, zero, suc, lit<, ◌≡◌, ◌≤◌, ◌<◌, ◌^◌, List, [], ◌∷◌, length, refl, arith, All, AllPairs, map}
 use Rattle.std.specs.List.{AllByRecursion}
 use Rattle.std.proofs.lemmas.List.Elements.{All-from_recursion, recursion_from_All, All-nil}
 use Rattle.net_types.specs.ConfigFacts.{IsConfig}
@@ -7,11 +7,11 @@ use Rattle.net_types.specs.NetFacts.{IsNet, IsNotice, no_export, no_advertise}
 use Rattle.net_types.specs.declared.config.RouterConfig.{RouterConfig}
 use Rattle.topology.specs.declared.interfaces.Port.{Port}
 use Rattle.topology.specs.Live.{in_order, ports, same_host, host_before}
-use Rattle.topology.specs.Groups.{wires, links, IsNumbered, link_of}
+use Rattle.topology.specs.Groups.{wires, IsNumbered, link_of}
 use Rattle.topology.specs.Owning.{routers_from}
 use Rattle.topology.specs.declared.groups.Wire.{Wire}
 use Rattle.topology.specs.Network.{net_of, net_from}
-use Rattle.topology.proofs.RisingLemmas.{Rises, Rises-ascending, All-ascending, length-ascending}
+use Rattle.topology.proofs.RisingLemmas.{Rises-ascending, All-ascending, length-ascending}
 use Rattle.topology.proofs.OrderLaws.{host_order}
 use Rattle.topology.proofs.PortLemmas.{IsPort, IsPort-ports_from}
 use Rattle.topology.proofs.LinkLemmas.{IsNumbered-wires, IsLink-links, subnets-links}
@@ -23,7 +23,7 @@ ports-are configs a = IsPort-ports_from (length (in_order configs)) 0 (in_order 
 pub numbered : (configs : List RouterConfig) → All IsConfig configs → length configs ≤ 64 → All IsNumbered (wires (ports configs))
 numbered configs a few = IsNumbered-wires (length (in_order configs)) (ports configs) (let l = length-ascending same_host host_before configs in omega arith) (ports-are configs a)
 
-length-map : {A B : Type 0} (f : A → B) (xs : List A) → length (map f xs) ≡ length xs
+pub length-map : {A B : Type 0} (f : A → B) (xs : List A) → length (map f xs) ≡ length xs
 length-map f [] = refl
 length-map f (x ∷ xs) = let e = length-map f xs in omega arith
 

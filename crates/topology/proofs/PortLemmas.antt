@@ -1,6 +1,6 @@
 -- What is true of each live interface of a bundle.
-use Rattle.std.proofs.Common.{ℕ, ◌≡◌, ◌+◌, ◌≤◌, ◌<◌, ◌^◌, ◌++◌, Bool, true, false, cond, List, [], ◌∷◌, length, refl, sym, arith, All}
-use Rattle.std.specs.List.{AllByRecursion, filter_map}
+use Rattle.std.proofs.Common.{ℕ, ◌+◌, ◌≤◌, ◌<◌, ◌^◌, Bool, true, false, cond, List, [], ◌∷◌, length, arith}
+use Rattle.std.specs.List.{AllByRecursion}
 use Rattle.std.specs.Option.{IfSome, option_map, unwrap_or}
 use Rattle.std.specs.Prelude.{Option, Some, None}
 use Rattle.std.proofs.lemmas.List.Elements.{recursion_from_All}
@@ -9,8 +9,8 @@ use Rattle.net_types.specs.ConfigFacts.{IsConfig, IsInterface, IsAddressed, IsCo
 use Rattle.net_types.specs.declared.config.RouterConfig.{RouterConfig}
 use Rattle.net_types.specs.declared.config.Interface.{Interface}
 use Rattle.topology.specs.declared.interfaces.Port.{Port}
-use Rattle.topology.specs.Live.{live, port_of, ports_of, ports_from, is_loopback, runs_ospf}
-use Rattle.topology.proofs.RisingLemmas.{AllByRecursion-weaker, All-append, All-filter_map}
+use Rattle.topology.specs.Live.{port_of, ports_of, ports_from, is_loopback, runs_ospf}
+use Rattle.topology.proofs.RisingLemmas.{All-append, All-filter_map}
 
 -- a live interface of one of so many routers
 pub record IsPort (count : ℕ) (port : Port) : Type 0 where

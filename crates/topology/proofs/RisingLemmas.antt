@@ -1,10 +1,10 @@
 -- Lists that rise: they stay so when an item is put into them, and what is true of all items stays true.
-use Rattle.std.proofs.Common.{ℕ, zero, suc, ◌≡◌, ◌+◌, ◌≤◌, ◌<◌, ◌++◌, ◌||◌, Bool, true, false, not, cond, List, [], ◌∷◌, map, take, drop, fold, length, get_or, refl, ap, sym, subst, ◌∙◌, arith, AllPairs, All}
+use Rattle.std.proofs.Common.{ℕ, zero, suc, ◌≡◌, ◌+◌, ◌≤◌, ◌++◌, ◌||◌, Bool, true, false, not, cond, List, [], ◌∷◌, map, fold, length, refl, ap, sym, ◌∙◌, arith, AllPairs}
 use Rattle.std.specs.List.{list_any, position_or_len, insert, AllByRecursion, filter_map, filter, cons_option}
 use Rattle.std.specs.Option.{IfSome}
 use Rattle.std.specs.Prelude.{Option, Some, None}
 use Rattle.std.proofs.lemmas.Bool.{false≢true}
-use Rattle.std.proofs.lemmas.List.Elements.{All-from_recursion, recursion_from_All}
+use Rattle.std.proofs.lemmas.List.Elements.{All-from_recursion}
 use Rattle.topology.specs.Ascending.{is_there, put, ascending}
 
 -- each item stands before all that follow it

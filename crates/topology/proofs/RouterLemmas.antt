@@ -1,5 +1,5 @@
 -- What is true of each router: what it owns, and that routers ascend by host.
-use Rattle.std.proofs.Common.{ℕ, ◌≡◌, ◌+◌, ◌≤◌, ◌<◌, ◌==◌, ◌&&◌, min, Bool, true, false, cond, List, [], ◌∷◌, length, map, fold, refl, sym, arith, All, AllPairs}
+use Rattle.std.proofs.Common.{ℕ, ◌≡◌, ◌+◌, ◌≤◌, ◌==◌, ◌&&◌, min, Bool, true, false, cond, List, [], ◌∷◌, length, map, fold, refl, arith, All, AllPairs}
 use Rattle.std.specs.List.{AllByRecursion, filter}
 use Rattle.std.specs.Option.{IfSome}
 use Rattle.std.specs.Prelude.{Option, Some, None}
@@ -12,9 +12,8 @@ use Rattle.net_types.specs.declared.config.RouterConfig.{RouterConfig}
 use Rattle.net_types.specs.declared.network.Router.{Router}
 use Rattle.net_types.specs.declared.network.Owned.{Owned}
 use Rattle.topology.specs.declared.interfaces.Port.{Port}
-use Rattle.topology.specs.Ascending.{ascending_prefixes}
 use Rattle.topology.specs.Live.{host_before}
-use Rattle.topology.specs.Owning.{is_stub, stubs, stub_cost, lesser, least, least_cost, owned_of, prefixes_of, owned_by, router_of, routers_from}
+use Rattle.topology.specs.Owning.{is_stub, stubs, stub_cost, lesser, owned_of, prefixes_of, owned_by, router_of, routers_from}
 use Rattle.topology.proofs.RisingLemmas.{Rises, AllByRecursion-weaker, All-filter, All-map, All-ascending, Rises-ascending, Rises-map, AllPairs-from_rises}
 use Rattle.topology.proofs.OrderLaws.{prefix_order}
 use Rattle.topology.proofs.PortLemmas.{IsPort}

@@ -1,6 +1,6 @@
 -- What the least pairs of configurations mean: one host, or one address.
-use Rattle.std.proofs.Common.{ℕ, zero, suc, ◌≡◌, ◌+◌, ◌≤◌, ◌<◌, ◌==◌, ◌&&◌, ◌||◌, ◌⊎◌, inl, inr, ⊎_elim, Bool, true, false, cond, nat_lt, List, [], ◌∷◌, length, get_or, refl, ap, sym, subst, ◌∙◌, arith, zero-add, Option, Some, None, nat_eq, MatchOption}
-use Rattle.std.specs.List.{list_any, slice_get, Any}
+use Rattle.std.proofs.Common.{ℕ, zero, suc, ◌≡◌, ◌+◌, ◌<◌, ◌==◌, ◌||◌, ◌⊎◌, inl, inr, ⊎_elim, Bool, true, false, cond, nat_lt, List, [], ◌∷◌, length, get_or, refl, ap, sym, subst, ◌∙◌, arith, zero-add, Option, Some, None, nat_eq, MatchOption}
+use Rattle.std.specs.List.{list_any, slice_get}
 use Rattle.std.specs.Prelude.{Result, Ok, Err}
 use Rattle.std.specs.Option.{option_map}
 use Rattle.std.specs.Cmp.Lexicographic.{pointwise}
@@ -13,14 +13,14 @@ use Rattle.net_types.specs.declared.config.RouterConfig.{RouterConfig}
 use Rattle.net_types.specs.declared.config.Interface.{Interface}
 use Rattle.net_types.specs.declared.refusals.NetRefusal.{NetRefusal}
 use Rattle.net_types.specs.declared.refusals.NetRefusal.TheVariants.{SameHost, SameAs, SameAddress, SharedSubnet, TooManyLinks, TooManyCommunities, TooManyRouters, NoMemory}
-use Rattle.topology.specs.Pairs.{any_pair, least_pair}
+use Rattle.topology.specs.Pairs.{any_pair}
 use Rattle.topology.specs.Live.{same_host, same_number, share_address, link_address, has_address_twice, meet_at_address}
 use Rattle.net_types.specs.NetValue.{NetValue}
 use Rattle.net_types.specs.PrefixValue.{PrefixValue}
 use Rattle.topology.specs.Live.{ports}
 use Rattle.topology.specs.Groups.{wires, shared_subnet}
 use Rattle.topology.specs.Network.{Answers, unless, whole_refusals, net_of, host_pair, address_pair}
-use Rattle.topology.specs.Meaning.{HaveOneHost, HaveOneAddress, IsEarlier, IsUpTo, IsLeastPair, NoPair, NamesLeastPair}
+use Rattle.topology.specs.Meaning.{HaveOneHost, HaveOneAddress, IsLeastPair, NoPair, NamesLeastPair}
 use Rattle.topology.proofs.PairLemmas.{Meet, IsPair, IsPair-least_pair}
 
 pub same_text-equal : (xs ys : List ℕ) → pointwise nat_eq xs ys ≡ true → xs ≡ ys

@@ -1,5 +1,5 @@
 -- Groups of interfaces in one subnet, and the links that they make.
-use Rattle.std.specs.Prelude.{ℕ, ◌<◌, ◌&&◌, nat_lt, Bool, true, false, List, [], ◌∷◌, Option, Some, None, filter, find, map, if◌then◌else◌}
+use Rattle.std.specs.Prelude.{◌<◌, ◌&&◌, nat_lt, Bool, true, false, List, [], ◌∷◌, Option, Some, None, filter, find, map, if◌then◌else◌}
 use Rattle.std.specs.List.{filter_map}
 use Rattle.net_types.specs.declared.network.Link.{Link}
 use Rattle.net_types.specs.declared.network.End.{End}

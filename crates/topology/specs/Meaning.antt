@@ -1,19 +1,19 @@
 -- What the refusals and the lists of a network mean, as relations. The answers of `build` meet them.
-use Rattle.std.specs.Prelude.{ℕ, ◌≡◌, ◌<◌, ◌≤◌, ◌⊎◌, Bool, true, false, List, [], ◌∷◌, Option, Some, None, All, AllPairs, Contains, Result, Ok, Err, map, slice_get}
+use Rattle.std.specs.Prelude.{ℕ, ◌≡◌, ◌<◌, ◌≤◌, ◌⊎◌, Bool, true, false, List, [], ◌∷◌, Option, Some, None, All, AllPairs, Contains, length, Result, Ok, Err, map, slice_get}
 use Rattle.net_types.specs.declared.config.RouterConfig.{RouterConfig}
 use Rattle.net_types.specs.declared.config.Interface.{Interface}
 use Rattle.net_types.specs.declared.network.Router.{Router}
 use Rattle.net_types.specs.declared.refusals.NetRefusal.{NetRefusal}
-use Rattle.net_types.specs.declared.refusals.NetRefusal.TheVariants.{SameHost, SameAddress, NoMemory}
+use Rattle.net_types.specs.declared.refusals.NetRefusal.TheVariants.{SameHost, SameAddress, SharedSubnet, TooManyLinks, TooManyRouters, NoMemory}
 use Rattle.net_types.specs.declared.network.Link.{Link}
 use Rattle.net_types.specs.declared.network.Owned.{Owned}
 use Rattle.net_types.specs.PrefixValue.{PrefixValue}
 use Rattle.net_types.specs.Prefixes.{prefix_before}
 use Rattle.net_types.specs.NetValue.{NetValue}
-use Rattle.net_types.specs.Order.{same_text, text_before}
+use Rattle.net_types.specs.Order.{text_before}
 use Rattle.topology.specs.declared.interfaces.Port.{Port}
 use Rattle.topology.specs.Live.{link_address, ports}
-use Rattle.topology.specs.Groups.{group, link_of}
+use Rattle.topology.specs.Groups.{group, is_shared, kind_at, link_of, links}
 use Rattle.topology.specs.Owning.{stubs, stub_cost}
 
 -- the positions i and j of two configurations, i before j, that name one host
@@ -114,3 +114,26 @@ pub record IsNetworkOf (configs : List RouterConfig) (net : NetValue) : Type 0 w
   pub hosts : IsAscending text_before (map (λ (config : RouterConfig). config.host) configs) (map (λ (router : Router). router.host) net.routers)
   pub links : AreLinks (ports configs) net.links
   pub owned : (k : ℕ) (router : Router) → slice_get net.routers k ≡ Some router → AreOwned (stubs (ports configs) k) router.owned
+
+-- the group of the subnet is refused: it has an interface, and is neither one nor two on two routers
+pub record IsRefused (ports : List Port) (subnet : PrefixValue) : Type 0 where
+  pub port : Port
+  pub there : Contains (group ports subnet) port
+  pub shared : is_shared (kind_at ports subnet) ≡ true
+
+-- the group of the subnet is refused, and that of no subnet before it
+pub record IsLeastRefused (ports : List Port) (subnet : PrefixValue) : Type 0 where
+  pub refused : IsRefused ports subnet
+  pub least : (other : PrefixValue) → IsRefused ports other → prefix_before other subnet ≡ false
+
+abbrev pub NoneRefused : List Port → Type 0
+NoneRefused ports = (subnet : PrefixValue) → IsRefused ports subnet → ⊥
+
+-- a refusal for a subnet names the least; a network, and a refusal that is tried later, says that no group
+-- is refused; a refusal for a number names what was counted, which is more than 64
+abbrev pub NamesWhole : List RouterConfig → Result NetValue NetRefusal → Type 0
+NamesWhole configs (Ok net) = NoneRefused (ports configs)
+NamesWhole configs (Err (SharedSubnet subnet)) = IsLeastRefused (ports configs) subnet
+NamesWhole configs (Err (TooManyLinks n)) = NoneRefused (ports configs) × (n ≡ length (links (ports configs))) × (64 < n)
+NamesWhole configs (Err (TooManyRouters n)) = NoneRefused (ports configs) × (n ≡ length configs) × (64 < n)
+NamesWhole configs _ = Unit {0}

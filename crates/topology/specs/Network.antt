@@ -1,8 +1,8 @@
 -- The network of configurations, or their first refusal.
-use Rattle.std.specs.Prelude.{ℕ, ◌≡◌, nat_lt, Bool, false, List, [], ◌∷◌, ◌++◌, length, Option, Some, None, option_map, Result, Ok, Err, if◌then◌else◌}
+use Rattle.std.specs.Prelude.{ℕ, ◌≡◌, nat_lt, false, List, [], ◌∷◌, ◌++◌, length, Option, Some, None, option_map, Result, Ok, Err, if◌then◌else◌}
 use Rattle.net_types.specs.declared.config.RouterConfig.{RouterConfig}
 use Rattle.net_types.specs.declared.refusals.NetRefusal.{NetRefusal}
-use Rattle.net_types.specs.declared.refusals.NetRefusal.TheVariants.{SameHost, SameAs, SameAddress, SharedSubnet, TooManyLinks, TooManyCommunities, TooManyRouters, NoMemory}
+use Rattle.net_types.specs.declared.refusals.NetRefusal.TheVariants.{SameHost, SameAddress, SharedSubnet, TooManyLinks, TooManyRouters, NoMemory}
 use Rattle.net_types.specs.NetFacts.{no_export, no_advertise}
 use Rattle.net_types.specs.NetValue.{NetValue}
 use Rattle.topology.specs.declared.interfaces.Port.{Port}

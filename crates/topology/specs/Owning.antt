@@ -8,7 +8,7 @@ use Rattle.net_types.specs.PrefixValue.{PrefixValue}
 use Rattle.net_types.specs.Prefixes.{same_prefix}
 use Rattle.topology.specs.declared.interfaces.Port.{Port}
 use Rattle.topology.specs.declared.groups.Group.{Group}
-use Rattle.topology.specs.declared.groups.Group.TheVariants.{Alone, Joined, Shared}
+use Rattle.topology.specs.declared.groups.Group.TheVariants.{Alone}
 use Rattle.topology.specs.Ascending.{ascending_prefixes}
 use Rattle.topology.specs.Live.{can_link}
 use Rattle.topology.specs.Groups.{kind_at}

@@ -4,7 +4,7 @@ ghost use Rattle.std.specs.Prelude.{◌≡◌, ◌≤◌, IfOk, All, map, length
 ghost use Rattle.net_types.specs.ConfigFacts.{IsConfig};
 ghost use Rattle.net_types.specs.NetFacts.{IsNet};
 ghost use Rattle.topology.specs.Groups.{IsNumbered};
-ghost use Rattle.topology.specs.Meaning.{IsNetworkOf, NamesLeastPair};
+ghost use Rattle.topology.specs.Meaning.{IsNetworkOf, NamesLeastPair, NamesWhole};
 ghost use Rattle.topology.specs.Network.{IsOspfOnly, Answers, unless, whole_refusals, net_from, net_of, network_of};
 
 use crate::groups::{Wire, links, shared_subnet, subnets, wires};
@@ -23,13 +23,17 @@ const NO_EXPORT: u32 = 0xFFFF_FF01;
 
 const NO_ADVERTISE: u32 = 0xFFFF_FF02;
 
-/// The network of the configurations, or the first of these refusals that stands, in the order of
-/// `NetRefusal`. The answer may also be want of memory.
+/// The network of the configurations, which are of OSPF alone, or the first refusal that stands, in the
+/// order of `NetRefusal`. The answer may also be want of memory.
+///
+/// Routers are numbered in byte order of their hosts, links by their subnets. A pair in a refusal is the
+/// least pair of positions in the slice, by the first and then by the second.
 pub fn build(alloc: Global, configs: &[RouterConfig]) -> Result<Net, NetRefusal>
     requires valid { All IsConfig configs.now }
     requires ospf_only { All IsOspfOnly configs.now }
     ensures exact { Answers (network_of configs.now) result }
     ensures network { IfOk result (λ net. IsNetworkOf configs.now net) }
+    ensures whole { NamesWhole configs.now result }
     ensures least_pair { NamesLeastPair configs.now result }
 {
     if let Some((i, j)) = host_pair(configs) {

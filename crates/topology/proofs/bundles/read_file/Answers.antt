@@ -1,4 +1,3 @@
-use Rattle.std.proofs.Common.{ap, ◌≡◌, ◌∙◌, rules}
 use Rattle.topology.proofs.ReadLemmas.{only-answer}
 use Rattle.topology.proofs.bundles.read_file.Goals as goal
 

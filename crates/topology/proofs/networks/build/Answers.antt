@@ -1,6 +1,7 @@
 use Rattle.topology.proofs.TwinLemmas.{named-host, no-host, named-address, no-address, names-whole}
 use Rattle.topology.specs.Network.{whole_refusals}
 use Rattle.topology.proofs.MeaningLemmas.{IsNetworkOf-answer}
+use Rattle.topology.proofs.WholeLemmas.{NamesWhole-answer}
 use Rattle.topology.proofs.networks.build.Goals as goal
 
 pub returns-in-Some-clause-least_pair : goal.returns-in-Some-clause-least_pair
@@ -19,3 +20,6 @@ returns-clause-least_pair c =
 
 pub returns-clause-network : goal.returns-clause-network
 returns-clause-network c = IsNetworkOf-answer c.args.configs.now (whole_refusals c.args.configs.now) c.whole.result c.whole.ensures
+
+pub returns-clause-whole : goal.returns-clause-whole
+returns-clause-whole c = NamesWhole-answer c.args.configs.now c.whole.result c.whole.ensures

@@ -1,5 +1,5 @@
 use Rattle.std.proofs.Common.{◌≡◌, true, false, sym, ap, map, ◌∙◌}
-use Rattle.std.specs.List.{list_any, insert, position_or_len}
+use Rattle.std.specs.List.{list_any, position_or_len}
 use Rattle.topology.specs.Live.{same_host, host_before}
 use Rattle.topology.proofs.MapLemmas.{put-there, put-new}
 use Rattle.topology.proofs.order.put.Goals as goal

@@ -1,0 +1,4 @@
+pub mod RowLemmas
+pub mod HeightLemmas
+pub mod FitLemmas
+pub mod BeatsLemmas

@@ -1,0 +1,8 @@
+use Rattle.abstract_route.proofs.FitLemmas.{exact_is_least, exact_is_row}
+use Rattle.abstract_route.proofs.laws.exact_law.Goals as goal
+
+pub returns-clause-least : goal.returns-clause-least
+returns-clause-least c = exact_is_least
+
+pub returns-clause-row : goal.returns-clause-row
+returns-clause-row c = exact_is_row

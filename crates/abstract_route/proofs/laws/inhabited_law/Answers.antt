@@ -1,0 +1,8 @@
+use Rattle.abstract_route.proofs.FitLemmas.{inhabited_is, inhabited_up}
+use Rattle.abstract_route.proofs.laws.inhabited_law.Goals as goal
+
+pub returns-clause-test : goal.returns-clause-test
+returns-clause-test c = inhabited_is
+
+pub returns-clause-up : goal.returns-clause-up
+returns-clause-up c = inhabited_up

@@ -1,0 +1,77 @@
+-- Which routes a row speaks of. The attributes are those of RFC 4271, section 5, and RFC 1997.
+use Rattle.std.specs.Prelude.{ℕ, ◌≡◌, ◌<◌, ◌≤◌, ◌==◌, Bool, true, false, List, length, fold, bit_or, ◌^◌}
+use Rattle.std.specs.Int.{bit_not, w64}
+use Rattle.std.specs.List.{list_any}
+use Rattle.abstract_route.specs.declared.rows.Row.{Row}
+use Rattle.abstract_route.specs.declared.rows.Range.{Range}
+use Rattle.abstract_route.specs.Rows.{IsBelow, single}
+use Rattle.net_types.specs.declared.routes.Route.{Route}
+use Rattle.net_types.specs.declared.routes.Source.{Source}
+use Rattle.net_types.specs.declared.routes.Source.TheVariants.{Local, Learned}
+use Rattle.net_types.specs.Better.{origin_rank}
+use Rattle.net_types.specs.Sets.{has, IsPart}
+
+-- the router is on the path
+abbrev pub on_path : ℕ → List ℕ → Bool
+on_path router path = list_any (λ y. router == y) path
+
+-- the number is in the range
+abbrev pub Holds : Range → ℕ → Type 0
+Holds r n = (r.low ≤ n) × (n ≤ r.high)
+
+-- each number below 64 that is none of the communities may be lacked
+abbrev pub LacksRest : ℕ → ℕ → Type 0
+LacksRest communities lacks = (x : ℕ) → x < 64 → has communities x ≡ false → has lacks x ≡ true
+
+-- each router on the path is of the set
+abbrev pub StaysIn : List ℕ → ℕ → Type 0
+StaysIn path may = (x : ℕ) → on_path x path ≡ true → has may x ≡ true
+
+-- each router of the set is on the path
+abbrev pub PassesAll : List ℕ → ℕ → Type 0
+PassesAll path must = (x : ℕ) → has must x ≡ true → on_path x path ≡ true
+
+-- the route is one of those that the row speaks of
+pub record Fits (route : Route) (row : Row) : Type 0 where
+  pub weight : Holds row.weight route.weight
+  pub preference : Holds row.preference route.preference
+  pub length : Holds row.length (length route.path)
+  pub origin : Holds row.origin (origin_rank route.origin)
+  pub med : Holds row.med route.med
+  -- each community that it holds may be held
+  pub held : IsPart route.communities row.has
+  pub lacked : LacksRest route.communities row.lacks
+  pub may : StaysIn route.path row.may
+  pub must : PassesAll route.path row.must
+
+-- the MED that an export carries: what a learned route came with stays at its router
+abbrev pub exported_med : Source → ℕ → ℕ
+exported_med Local med = med
+exported_med (Learned arc) med = 0
+
+-- the route is in the row: it fits with the MED that an export carries
+abbrev pub IsIn : Route → Row → Type 0
+IsIn route row = Fits (record route { med = exported_med route.source route.med }) row
+
+-- the least row that the route fits
+pub record IsExact (route : Route) (row : Row) : Type 0 where
+  pub fits : Fits route row
+  pub least : (other : Row) → Fits route other → IsBelow row other
+
+-- the set of the routers on a path
+abbrev pub routers_of : List ℕ → ℕ
+routers_of path = fold (λ set x. bit_or set (2 ^ x)) 0 path
+
+-- a value that is the least row that the route fits, see `exact_law`
+abbrev pub exact_row : Route → Row
+exact_row route = record {
+  weight = single route.weight;
+  preference = single route.preference;
+  length = single (length route.path);
+  origin = single (origin_rank route.origin);
+  med = single route.med;
+  has = route.communities;
+  lacks = bit_not w64 route.communities;
+  may = routers_of route.path;
+  must = routers_of route.path;
+}

@@ -1,0 +1,5 @@
+pub mod Rows
+pub mod Heights
+pub mod Fits
+pub mod Beats
+pub mod Laws

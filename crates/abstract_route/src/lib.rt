@@ -1,0 +1,25 @@
+//! Rows: what is known of the routes that may come to a router, before it is known which one does.
+//!
+//! Decides: the order of rows and their join, which routes a row speaks of, and when every route of one
+//! candidate is better than every route of another. What a policy makes of a row, other crates decide.
+//! Stands on: `net_types` alone. No call takes memory.
+//! Promises: the join is the least row above both; each test answers exactly its definition in `specs/`; and
+//! the laws, stated in `specs/Laws.antt`, say that rows are ordered, that rising chains of them end, that a
+//! route that fits a row fits each row above it, and that a candidate that beats another has better routes
+//! alone. Not: that any router behaves so.
+#![tactic(auto)]
+
+mod candidates;
+mod fitting;
+mod laws;
+mod rows;
+#[cfg(test)]
+mod tests;
+
+pub use candidates::{Candidate, beats};
+pub use fitting::contains;
+pub use laws::{
+    beats_law, bottom_law, bottom_value, carried_laws, exact_law, fits_law, inhabited_law,
+    order_laws, rank_laws,
+};
+pub use rows::{BOTTOM, Range, Row, carried, is_below, is_inhabited, join};
