@@ -7,6 +7,7 @@ use Rattle.net_types.specs.NetFacts.{IsNet}
 use Rattle.net_types.specs.NetValue.{NetValue}
 use Rattle.net_types.specs.Distance.{AreDistances}
 use Rattle.net_types.specs.Order.{same_text}
+use Rattle.ospf_paths.proofs.Existence.{distances_exist}
 use Rattle.route_desk.specs.declared.property.Property.{Property}
 use Rattle.route_desk.specs.declared.property.Kind.{Kind}
 use Rattle.route_desk.specs.declared.property.Kind.TheVariants.{Reach, Isolated, Waypoint}
@@ -36,6 +37,8 @@ by_kind net valid property ds are u is certified Isolated asked = absurd (false�
 by_kind net valid property ds are u is certified (Waypoint via) asked = absurd (false≢true asked)
 
 pub certified_holds : (net : NetValue) (property : Property) (verdict : Verdict) → IsNet net → IsAsked property → IsVerdict net property verdict → HoldsIfCertified net property verdict
-certified_holds net property Certified valid asked certified = λ u is ds are. by_kind net valid property ds are u is certified property.kind asked
+certified_holds net property Certified valid asked certified = λ u is.
+    let all = distances_exist net valid property.prefix [] in
+    (all.0, all.1, by_kind net valid property all.0 all.1 u is certified property.kind asked)
 certified_holds net property (NotCertified failed broken) valid asked verdict = tt
 certified_holds net property (NotApplicable bar) valid asked verdict = tt

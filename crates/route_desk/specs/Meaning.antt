@@ -16,11 +16,11 @@ HasKind net property distances u Reach = Reaches net property.prefix [] distance
 HasKind net property distances u Isolated = IsIsolated net property.prefix distances [] u
 HasKind net property distances u (Waypoint via) = (w : ℕ) → number_of net via ≡ Some w → GoesThrough net property.prefix [] distances [] w u
 
--- the property holds: at its router, for the distances of the network
+-- the property holds: at its router, for the distances of the network, of which there is one list
 abbrev pub Holds : NetValue → Property → Type 0
 Holds net property =
-    (u : ℕ) → number_of net property.router ≡ Some u → (distances : Seq (Option ℕ)) → AreDistances net property.prefix [] distances →
-    HasKind net property distances u property.kind
+    (u : ℕ) → number_of net property.router ≡ Some u →
+    (distances : Seq (Option ℕ)) × AreDistances net property.prefix [] distances × HasKind net property distances u property.kind
 
 -- a property with a certificate holds
 abbrev pub HoldsIfCertified : NetValue → Property → Verdict → Type 0

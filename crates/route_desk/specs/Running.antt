@@ -75,17 +75,20 @@ pub record HasUsage (before : Seq ℕ) (after : Option (Seq ℕ)) (status : ℕ)
   pub status_is : status ≡ 3
   pub written : after ≡ Some (before ++ usage_line)
 
--- what a run comes to over this content where neither the shelf nor the sink failed: a check answers with
--- its defined text and status, or had no memory and wrote nothing; other words are answered by the usage line
+-- what a run comes to over this content where its status is not that of a failure: a check answers with its
+-- defined text and status, or had no memory and wrote nothing; other words are answered by the usage line
 abbrev pub Answers : Content → Option Paths → Seq ℕ → Option (Seq ℕ) → ℕ → Type 0
 Answers content None before after status = HasUsage before after status
 Answers content (Some paths) before after status = HasAnswered content paths before after status ⊎ HasNoMemory before after status
 
+-- a text is behind what the sink held before
+abbrev pub IsBehind : Seq ℕ → Option (Seq ℕ) → Option (Seq ℕ) → Type 0
+IsBehind text given given_now = (before : Seq ℕ) → given ≡ Some before → given_now ≡ Some (before ++ text)
+
 -- a text was written and the status is this one, or the sink failed and the status is 5
-pub record IsWritten (wanted : ℕ) (text : Seq ℕ) (faults faults_now : ℕ) (given given_now : Option (Seq ℕ)) (status : ℕ) : Type 0 where
-  pub ends : (status ≡ wanted) ⊎ ((status ≡ 5) × Rose faults faults_now)
-  pub calm : (Rose faults faults_now → ⊥) → status ≡ wanted
-  pub told : (Rose faults faults_now → ⊥) → (before : Seq ℕ) → given ≡ Some before → given_now ≡ Some (before ++ text)
+abbrev pub IsWritten : ℕ → Seq ℕ → ℕ → ℕ → Option (Seq ℕ) → Option (Seq ℕ) → ℕ → Type 0
+IsWritten wanted text faults faults_now given given_now status =
+    ((status ≡ wanted) × IsBehind text given given_now) ⊎ ((status ≡ 5) × Rose faults faults_now)
 
 -- nothing was written, and the status says that there was no memory
 pub record IsSilent (given given_now : Option (Seq ℕ)) (status : ℕ) : Type 0 where

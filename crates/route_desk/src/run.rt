@@ -4,7 +4,7 @@ ghost use Rattle.std.specs.Prelude.{◌≡◌, ◌≤◌, ◌⊎◌, ℕ, List a
 ghost use Rattle.outside.specs.Content.{Content};
 ghost use Rattle.outside.specs.Faults.{Rose};
 ghost use Rattle.route_desk.specs.Ending.{check_inputs};
-ghost use Rattle.route_desk.specs.Running.{Answers, Finishes, IsRefusedCommand, IsStatus, IsWritten, Paths, are_paths, command_of, is_path, paths_of, status_of};
+ghost use Rattle.route_desk.specs.Running.{Answers, Finishes, IsBehind, IsRefusedCommand, IsStatus, IsWritten, Paths, are_paths, command_of, is_path, paths_of, read_fault_line, status_of, usage_line};
 ghost use Rattle.net_types.specs.Order.{same_text};
 
 use crate::check::{Report, check};
@@ -108,11 +108,12 @@ fn finish<O: Sink>(out: &mut O, checked: Result<Report, Stop>) -> Status
 #[tactic(auto, unfolding(crate::specs::Running::usage_line))]
 pub fn run<F: Shelf, O: Sink>(alloc: Global, words: &[Text], shelf: &mut F, out: &mut O) -> Status
     ensures answer { (c : Content) (before : Seq ℕ) → F.content shelf.old ≡ Some c → O.given out.old ≡ Some before →
-        (Rose (F.faults shelf.old) (F.faults shelf.new) → ⊥) → (Rose (O.faults out.old) (O.faults out.new) → ⊥) →
-        Answers c (command_of words.now) before (O.given out.new) result }
+        (result ≡ 4 → ⊥) → (result ≡ 5 → ⊥) → Answers c (command_of words.now) before (O.given out.new) result }
     ensures refused { (c : Content) → F.content shelf.old ≡ Some c → result ≡ 2 → IsRefusedCommand c (command_of words.now) }
     ensures usage { result ≡ 3 → command_of words.now ≡ None }
     ensures no_command { command_of words.now ≡ None → (result ≡ 3) ⊎ (result ≡ 5) }
+    ensures usage_text { result ≡ 3 → IsBehind usage_line (O.given out.old) (O.given out.new) }
+    ensures read_fault_text { result ≡ 4 → IsBehind read_fault_line (O.given out.old) (O.given out.new) }
     ensures read_fault { result ≡ 4 → Rose (F.faults shelf.old) (F.faults shelf.new) }
     ensures write_fault { result ≡ 5 → Rose (O.faults out.old) (O.faults out.new) }
     ensures silent { result ≡ 8 → O.given out.new ≡ O.given out.old }

@@ -6,7 +6,9 @@ use outside::{MemShelf, MemSink};
 use std::alloc::Global;
 
 mod folders;
+mod limits;
 mod refusals;
+mod texts;
 
 use folders::{LINE, LINE_AMONG_OTHERS, LINE_REPORT, PROPERTIES};
 
@@ -60,6 +62,17 @@ pub fn ending_of(
     failing_writes: &[u64],
 ) -> Option<Ended> {
     let content = files_of(alloc, files, others).ok()?;
+    run_over(alloc, words, content, failing, failing_writes)
+}
+
+/// The same over files that are made already.
+pub fn run_over(
+    alloc: Global,
+    words: &[&str],
+    content: List<SourceFile>,
+    failing: &[u64],
+    failing_writes: &[u64],
+) -> Option<Ended> {
     if !MemShelf::are_distinct(&content) {
         return None;
     }

@@ -98,6 +98,16 @@ fn refused_bundles(rt: HostRuntime) {
 }
 
 #[test]
+fn line_refused_until_failures(rt: HostRuntime) {
+    let one_failure: [File<'_>; 1] = [(
+        "props",
+        "[[property]]\nname = \"p1\"\nkind = \"reach\"\nrouter = \"r1\"\nprefix = \"10.9.0.3/32\"\nfailures = 1\n",
+    )];
+    let run = ending_of(rt.alloc(), &CHECK, &LINE, &one_failure, &[], &[]);
+    assert!(rt; ends(run, 2, "refused: properties: BadField 1\n"));
+}
+
+#[test]
 fn refused_properties(rt: HostRuntime) {
     let one =
         "[[property]]\nname = \"p1\"\nkind = \"reach\"\nrouter = \"r1\"\nprefix = \"10.9.0.3/32\"\nfailures = 0\n";

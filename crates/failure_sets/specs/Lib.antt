@@ -1,0 +1,5 @@
+pub mod SetOrder
+pub mod SetList
+pub mod Places
+pub mod Laws
+pub mod Steps
