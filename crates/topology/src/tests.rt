@@ -13,13 +13,13 @@ use std::alloc::{AllocError, Global};
 use std::process::Abort;
 use std::test::Fail;
 
-const FIRST: &str =
+const ROUTER_1: &str =
     "hostname r1\ninterface eth0\n ip address 10.0.0.1/30\n ip ospf area 0\nrouter ospf\n";
 
-const SECOND: &str =
+const ROUTER_2: &str =
     "hostname r2\ninterface eth0\n ip address 10.0.0.2/30\n ip ospf area 0\ninterface eth1\n ip address 10.0.1.1/30\n ip ospf area 0\nrouter ospf\n";
 
-const THIRD: &str =
+const ROUTER_3: &str =
     "hostname r3\ninterface eth0\n ip address 10.0.1.2/30\n ip ospf area 0\ninterface lo\n ip address 10.9.0.3/32\n ip ospf area 0\nrouter ospf\n";
 
 fn source(alloc: Global, text: &[u8]) -> Result<SourceFile, AllocError> {
@@ -84,7 +84,7 @@ fn assert_owned(rt: &impl Abort, net: &Net, router: usize, owned: &[Owned]) {
 
 #[test]
 fn line_of_three(rt: HostRuntime) -> Result<(), Fail> {
-    let net = read(rt.alloc(), &[THIRD, FIRST, SECOND])??;
+    let net = read(rt.alloc(), &[ROUTER_3, ROUTER_1, ROUTER_2])??;
     let links = [
         link(
             0x0A00_0000,
