@@ -1,13 +1,18 @@
 -- The reading of a file is its configuration or the refusal of its first refused line.
-use Rattle.std.proofs.Common.{ℕ, ◌≡◌, ◌⊎◌, ◌++◌, List, [], ◌∷◌, Option, Some, None, Result, Ok, Err, IfSome, IfOk, MatchResult, option_and_then, fold, inl, inr, refl, sym, ◌∙◌, ap}
+use Rattle.std.proofs.Common.{ℕ, ◌≡◌, ◌⊎◌, ◌++◌, List, [], ◌∷◌, Option, Some, None, Result, Ok, Err, IfSome, IfOk, MatchResult, option_and_then, fold, inl, inr, refl, sym, ◌∙◌, ap, subst, ◌+◌}
 use Rattle.net_types.specs.declared.config.RouterConfig.{RouterConfig}
 use Rattle.net_types.specs.declared.refusals.ReadRefusal.{ReadRefusal}
-use Rattle.net_types.specs.declared.refusals.ReadRefusal.TheVariants.{NoMemory}
+use Rattle.net_types.specs.declared.refusals.ReadRefusal.TheVariants.{Undefined, ForeignAs, NoMemory}
 use Rattle.frr_reader.specs.declared.causes.Cause.{Cause}
+use Rattle.frr_reader.specs.declared.causes.Cause.TheVariants.{NotText, LineTooLong, Unsupported, OutOfPlace, BadValue, Repeated, OutOfLimit}
+use Rattle.frr_reader.specs.declared.needs.Need.{Need}
+use Rattle.frr_reader.specs.Needs.{is_undefined, is_foreign, first_undefined, first_foreign}
+use Rattle.frr_reader.proofs.LineLemmas.{Counted, counted-lines, counted-left}
+use Rattle.frr_reader.proofs.NeedLemmas.{least_undefined, least_foreign}
 use Rattle.frr_reader.specs.Lines.{LineValue, lines}
 use Rattle.frr_reader.specs.State.{State, start, IsOpen}
-use Rattle.frr_reader.specs.Reading.{step, RefusedLine, go_on, read_lines, config_of, refusal_of, concluded, reading}
-use Rattle.frr_reader.specs.FirstRefusal.{accepted, after, IsConf, IsRefAtLine, IsRefAtEnd, IsRef, IsReadOnce}
+use Rattle.frr_reader.specs.Reading.{step, RefusedLine, go_on, read_lines, configured, unless_wrong, judged, config_of, refusal_of, concluded, reading}
+use Rattle.frr_reader.specs.FirstRefusal.{accepted, after, IsConf, IsRefAtLine, IsRefAtEnd, IsRef, IsReadOnce, IsLeastWrong}
 use Rattle.frr_reader.proofs.KeptLemmas.{IsKept, step_kept, start_kept}
 
 -- after s, but from a state that may not be there
@@ -128,25 +133,105 @@ same_conf text a b c d = let e = reading-conf text a c in let f = reading-conf t
 same_ref : (text : List ℕ) (a b : ReadRefusal) → IsRef text a → IsRef text b → a ≡ b
 same_ref text a b c d = let e = reading-ref text a c in let f = reading-ref text b d in cc
 
+judged-memory : (config : RouterConfig) (all : List Need) → judged config all ≡ Err NoMemory → ⊥
+unfolding judged
+judged-memory config all e = go (first_undefined config all) (first_foreign config all) e where
+  go : (u f : Option ℕ) → unless_wrong config u f ≡ Err NoMemory → ⊥
+  go (Some line) f k = cc
+  go None (Some line) k = cc
+  go None None k = cc
+
 config_of-memory : (s : State) (host : Option (List ℕ)) → config_of s host ≡ Err NoMemory → ⊥
 config_of-memory s None e = cc
-config_of-memory s (Some host) e = cc
+config_of-memory s (Some host) e = judged-memory (configured s host) s.needed e
+
+refusal_of-memory : (cause : Cause) (number : ℕ) → NoMemory ≡ refusal_of cause number → ⊥
+refusal_of-memory NotText number e = cc
+refusal_of-memory LineTooLong number e = cc
+refusal_of-memory Unsupported number e = cc
+refusal_of-memory OutOfPlace number e = cc
+refusal_of-memory BadValue number e = cc
+refusal_of-memory Repeated number e = cc
+refusal_of-memory OutOfLimit number e = cc
 
 never_memory : (text : List ℕ) → IsRef text NoMemory → ⊥
-never_memory text (inl h) = let e = h.named in cc
+never_memory text (inl h) = refusal_of-memory h.cause h.line.number h.named
 never_memory text (inr h) = config_of-memory h.state h.state.host h.refused
 
 -- each state that is reached keeps what a line keeps
-onwards_kept : (ls : List LineValue) (o : Option State) → IfSome o IsKept → IfSome (onwards o ls) IsKept
-onwards_kept [] o h = h
-onwards_kept (line ∷ more) None h = onwards_kept more None tt
-onwards_kept (line ∷ more) (Some s) h = onwards_kept more (accepted (step s line)) (go (step s line) (step_kept s line h)) where
-  go : (r : Result State Cause) → IfOk r IsKept → IfSome (accepted r) IsKept
+abbrev Reached : State → Type 0
+Reached s = (n : ℕ) × IsKept n s
+
+onwards_kept : (ls : List LineValue) (o : Option State) (n : ℕ) → Counted n ls → IfSome o (IsKept n) → IfSome (onwards o ls) Reached
+onwards_kept [] None n c h = tt
+onwards_kept [] (Some s) n c h = (n, h)
+onwards_kept (line ∷ more) None n c h = onwards_kept more None (n + 1) c.1 tt
+onwards_kept (line ∷ more) (Some s) n c h = onwards_kept more (accepted (step s line)) (n + 1) c.1 (go (step s line) (step_kept n s line c.0 h)) where
+  go : (r : Result State Cause) → IfOk r (IsKept (n + 1)) → IfSome (accepted r) (IsKept (n + 1))
   go (Ok t) k = k
   go (Err cause) k = tt
 
-reached_open : (before : List LineValue) (state : State) → after start before ≡ Some state → IsOpen state
-reached_open before state e = let h : IfSome (Some state) IsKept = rw e at (onwards_kept before (Some start) start_kept) in h.opened
+reached : (ls : List LineValue) (state : State) → Counted 0 ls → after start ls ≡ Some state → Reached state
+reached ls state c e = let h : IfSome (Some state) Reached = rw e at (onwards_kept ls (Some start) 0 c start_kept) in h
+
+reached_open : (text : List ℕ) (before behind : List LineValue) (state : State) → lines text ≡ before ++ behind → after start before ≡ Some state → IsOpen state
+reached_open text before behind state f e = let c : Counted 0 (before ++ behind) = subst (Counted 0) f (counted-lines text) in (reached before state (counted-left 0 before behind c) e).1.opened
+
+-- the least line that is wrong
+
+undefined_apart : (cause : Cause) (number line : ℕ) → Undefined line ≡ refusal_of cause number → ⊥
+undefined_apart NotText number line e = cc
+undefined_apart LineTooLong number line e = cc
+undefined_apart Unsupported number line e = cc
+undefined_apart OutOfPlace number line e = cc
+undefined_apart BadValue number line e = cc
+undefined_apart Repeated number line e = cc
+undefined_apart OutOfLimit number line e = cc
+
+foreign_apart : (cause : Cause) (number line : ℕ) → ForeignAs line ≡ refusal_of cause number → ⊥
+foreign_apart NotText number line e = cc
+foreign_apart LineTooLong number line e = cc
+foreign_apart Unsupported number line e = cc
+foreign_apart OutOfPlace number line e = cc
+foreign_apart BadValue number line e = cc
+foreign_apart Repeated number line e = cc
+foreign_apart OutOfLimit number line e = cc
+
+undefined_line : (config : RouterConfig) (all : List Need) (line : ℕ) → judged config all ≡ Err (Undefined line) → first_undefined config all ≡ Some line
+unfolding judged
+undefined_line config all line e = go (first_undefined config all) (first_foreign config all) e where
+  go : (u f : Option ℕ) → unless_wrong config u f ≡ Err (Undefined line) → u ≡ Some line
+  go (Some l) f k = cc
+  go None (Some l) k = cc
+  go None None k = cc
+
+foreign_line : (config : RouterConfig) (all : List Need) (line : ℕ) → judged config all ≡ Err (ForeignAs line) → first_foreign config all ≡ Some line
+unfolding judged
+foreign_line config all line e = go (first_undefined config all) (first_foreign config all) e where
+  go : (u f : Option ℕ) → unless_wrong config u f ≡ Err (ForeignAs line) → f ≡ Some line
+  go (Some l) f k = cc
+  go None (Some l) k = cc
+  go None None k = cc
+
+undefined_at_end : (text : List ℕ) (line : ℕ) (state : State) → after start (lines text) ≡ Some state → (o : Option (List ℕ)) → state.host ≡ o → config_of state o ≡ Err (Undefined line) → IsLeastWrong text is_undefined line
+undefined_at_end text line state t None e r = cc
+undefined_at_end text line state t (Some host) e r =
+    let k = reached (lines text) state (counted-lines text) t in
+    record { state = state; host = host; taken = t; named = e; least = least_undefined (configured state host) state.needed line k.1.policy.ordered.rising (undefined_line (configured state host) state.needed line r) }
+
+foreign_at_end : (text : List ℕ) (line : ℕ) (state : State) → after start (lines text) ≡ Some state → (o : Option (List ℕ)) → state.host ≡ o → config_of state o ≡ Err (ForeignAs line) → IsLeastWrong text is_foreign line
+foreign_at_end text line state t None e r = cc
+foreign_at_end text line state t (Some host) e r =
+    let k = reached (lines text) state (counted-lines text) t in
+    record { state = state; host = host; taken = t; named = e; least = least_foreign (configured state host) state.needed line k.1.policy.ordered.rising (foreign_line (configured state host) state.needed line r) }
+
+least_undefined_line : (text : List ℕ) (line : ℕ) → IsRef text (Undefined line) → IsLeastWrong text is_undefined line
+least_undefined_line text line (inl h) = absurd (undefined_apart h.cause h.line.number line h.named)
+least_undefined_line text line (inr h) = undefined_at_end text line h.state h.taken h.state.host refl h.refused
+
+least_foreign_line : (text : List ℕ) (line : ℕ) → IsRef text (ForeignAs line) → IsLeastWrong text is_foreign line
+least_foreign_line text line (inl h) = absurd (foreign_apart h.cause h.line.number line h.named)
+least_foreign_line text line (inr h) = foreign_at_end text line h.state h.taken h.state.host refl h.refused
 
 pub read_once : (text : List ℕ) → IsReadOnce text
 read_once text = record {
@@ -156,6 +241,8 @@ read_once text = record {
   apart = apart text;
   same_conf = same_conf text;
   same_ref = same_ref text;
-  «open» = λ before behind state e f. reached_open before state f;
+  «open» = reached_open text;
   no_memory = never_memory text;
+  undefined = least_undefined_line text;
+  foreign_as = least_foreign_line text;
 }

@@ -1,6 +1,12 @@
+pub mod BgpLemmas
+pub mod ConfigLemmas
+pub mod EntryLemmas
 pub mod FirstRefusalLemmas
 pub mod KeptLemmas
 pub mod LineLemmas
+pub mod ListLemmas
+pub mod NeedLemmas
+pub mod OpenLemmas
+pub mod PolicyLemmas
 pub mod RangeLemmas
 pub mod ValueLemmas
-pub mod WordLemmas

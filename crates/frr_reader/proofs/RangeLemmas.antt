@@ -8,7 +8,7 @@ use Rattle.net_types.specs.PrefixValue.{PrefixValue, IsPrefix}
 use Rattle.net_types.specs.Masks.{masked}
 use Rattle.net_types.specs.ConfigFacts.{IsAddressed, IsCost}
 use Rattle.net_types.proofs.MaskLemmas.{masked_is_prefix}
-use Rattle.frr_reader.specs.Values.{one, cost_of, interface_address_of, with_a_length, masked_prefix_of, network_of, area_of}
+use Rattle.frr_reader.specs.Values.{one, as_of, cost_of, interface_address_of, with_a_length, masked_prefix_of, network_of, area_of}
 
 -- what an `if` gives where it gives something
 if_given : {A : Type 0} (P : A → Type 0) (b : Bool) (x : A) → (b ≡ true → P x) → IfSome (if b then Some x else None) P
@@ -88,3 +88,25 @@ network_prefix (a ∷ []) = tt
 network_prefix (a ∷ b ∷ []) = tt
 network_prefix (prefix ∷ word ∷ area ∷ []) = if_kept IsPrefix _ (option_and_then (λ _. masked_prefix_of prefix) (area_of area)) (area_then (area_of area) (masked_prefix_of prefix) (prefix_of_masked (interface_of prefix) (interface_of_parts_masked (parts 47 prefix))))
 network_prefix (a ∷ b ∷ c ∷ d ∷ more) = tt
+
+pub prefix_of_word : (word : List ℕ) → IfSome (masked_prefix_of word) IsPrefix
+prefix_of_word word = prefix_of_masked (interface_of word) (interface_of_parts_masked (parts 47 word))
+
+-- the prefix of a `network` line of BGP
+pub bgp_network_prefix : (rest : List (List ℕ)) → IfSome (one masked_prefix_of rest) IsPrefix
+bgp_network_prefix rest = one_given IsPrefix masked_prefix_of prefix_of_word rest
+
+pub address_word : (word : List ℕ) → IfSome (address_of word) (λ n. n < 2 ^ 32)
+address_word word = address_of_parts_word (parts 46 word)
+
+-- an AS number
+pub record IsAs (n : ℕ) : Type 0 where
+  pub least : 1 ≤ n
+  pub word : n < 2 ^ 32
+
+as_bounds : (o : Option ℕ) → IfSome o (λ n. (1 ≤ n) × (n ≤ 4294967295)) → IfSome o IsAs
+as_bounds None h = tt
+as_bounds (Some n) h = let k = h.1 in record { least = h.0; word = omega arith }
+
+pub as_is_as : (rest : List (List ℕ)) → IfSome (one as_of rest) IsAs
+as_is_as rest = one_given IsAs as_of (λ word. as_bounds (number_in 1 4294967295 word) (number_bounds 1 4294967295 word)) rest

@@ -1,8 +1,11 @@
-pub mod Words
 pub mod Lines
 pub mod Values
 pub mod Table
+pub mod Answers
 pub mod State
+pub mod Entries
+pub mod Needs
+pub mod Bgp
 pub mod Effects
 pub mod Reading
 pub mod FirstRefusal

@@ -1,14 +1,15 @@
 -- The line table: which line may stand in which mode, and the row that it is taken by.
-use Rattle.std.specs.Prelude.{ℕ, Bool, ◌==◌, List, [], ◌∷◌, codes, Option, Some, None, Result, Ok, Err, option_map, is_some, if◌then◌else◌}
+use Rattle.std.specs.Prelude.{ℕ, Bool, ◌==◌, ◌||◌, List, [], ◌∷◌, codes, Option, Some, None, Result, Ok, Err, option_map, is_some, if◌then◌else◌}
 use Rattle.std.specs.List.{list_any}
 use Rattle.net_types.specs.Order.{same_text}
-use Rattle.frr_reader.specs.Words.{words}
+use Rattle.frr_policy.specs.Words.{words}
 use Rattle.frr_reader.specs.declared.causes.Cause.{Cause}
 use Rattle.frr_reader.specs.declared.causes.Cause.TheVariants.{Unsupported, OutOfPlace}
-use Rattle.frr_reader.specs.declared.table.Mode.{Mode}
-use Rattle.frr_reader.specs.declared.table.Mode.TheVariants.{Top, InInterface, InOspf}
-use Rattle.frr_reader.specs.declared.table.Row.{Row}
-use Rattle.frr_reader.specs.declared.table.Row.TheVariants.{HostName, OpenInterface, OpenOspf, Address, Area, Cost, Shutdown, Network, Exit, End, NoEffect}
+use Rattle.frr_reader.specs.declared.modes.Mode.{Mode}
+use Rattle.frr_reader.specs.declared.modes.Mode.TheVariants.{Top, InInterface, InBgp, InOspf, InMap, InFamily}
+use Rattle.frr_reader.specs.declared.rows.BgpRow.TheVariants.{NoPolicy, RemoteAs, NeighborMap, BgpNetwork, Connected, FromOspf, OfNeighbor}
+use Rattle.frr_reader.specs.declared.rows.Row.{Row}
+use Rattle.frr_reader.specs.declared.rows.Row.TheVariants.{HostName, OpenInterface, OpenBgp, OpenOspf, PrefixListLine, CommunityListLine, MapLine, Address, Area, Cost, Shutdown, OspfNetwork, OfBgp, OpenFamily, Exit, End, ExitFamily, NoEffect}
 
 -- a row's place in the table: the modes that it stands in, its head, and what it is
 pub record FormValue : Type 0 where
@@ -28,22 +29,56 @@ interface = InInterface ∷ []
 abbrev pub ospf : List Mode
 ospf = InOspf ∷ []
 
-abbrev pub every : List Mode
-every = Top ∷ InInterface ∷ InOspf ∷ []
+abbrev pub bgp : List Mode
+bgp = InBgp ∷ []
 
--- the line table
+abbrev pub bgp_and_family : List Mode
+bgp_and_family = InBgp ∷ InFamily ∷ []
+
+abbrev pub family : List Mode
+family = InFamily ∷ []
+
+abbrev pub in_map : List Mode
+in_map = InMap ∷ []
+
+abbrev pub every : List Mode
+every = Top ∷ InInterface ∷ InBgp ∷ InOspf ∷ InMap ∷ InFamily ∷ []
+
+-- the line table; in a head `_` is any word
 abbrev pub table : List FormValue
 table =
     form top (codes "hostname") HostName ∷
     form top (codes "interface") OpenInterface ∷
+    form top (codes "router bgp") OpenBgp ∷
     form top (codes "router ospf") OpenOspf ∷
+    form top (codes "ip prefix-list") PrefixListLine ∷
+    form top (codes "bgp community-list") CommunityListLine ∷
+    form top (codes "ip community-list") CommunityListLine ∷
+    form top (codes "route-map") MapLine ∷
     form interface (codes "ip address") Address ∷
     form interface (codes "ip ospf area") Area ∷
     form interface (codes "ip ospf cost") Cost ∷
     form interface (codes "shutdown") Shutdown ∷
-    form ospf (codes "network") Network ∷
+    form ospf (codes "network") OspfNetwork ∷
+    form bgp (codes "no bgp ebgp-requires-policy") (OfBgp NoPolicy) ∷
+    form bgp (codes "neighbor _ remote-as") (OfBgp RemoteAs) ∷
+    form bgp (codes "address-family") OpenFamily ∷
+    form bgp_and_family (codes "neighbor _ route-map") (OfBgp NeighborMap) ∷
+    form bgp_and_family (codes "network") (OfBgp BgpNetwork) ∷
+    form bgp_and_family (codes "redistribute connected") (OfBgp Connected) ∷
+    form bgp_and_family (codes "redistribute ospf") (OfBgp FromOspf) ∷
+    form in_map (codes "match ip address prefix-list") MapLine ∷
+    form in_map (codes "match community") MapLine ∷
+    form in_map (codes "set local-preference") MapLine ∷
+    form in_map (codes "set metric") MapLine ∷
+    form in_map (codes "set weight") MapLine ∷
+    form in_map (codes "set origin") MapLine ∷
+    form in_map (codes "set community") MapLine ∷
+    form in_map (codes "set comm-list") MapLine ∷
+    form in_map (codes "set as-path prepend") MapLine ∷
     form every (codes "exit") Exit ∷
     form every (codes "end") End ∷
+    form family (codes "exit-address-family") ExitFamily ∷
     form top (codes "frr version") NoEffect ∷
     form top (codes "frr defaults traditional") NoEffect ∷
     form top (codes "log") NoEffect ∷
@@ -58,34 +93,54 @@ table =
     form interface (codes "description") NoEffect ∷
     form interface (codes "ip ospf network") NoEffect ∷
     form ospf (codes "ospf router-id") NoEffect ∷
+    form bgp (codes "bgp router-id") NoEffect ∷
+    form bgp (codes "bgp log-neighbor-changes") NoEffect ∷
+    form bgp (codes "no bgp network import-check") NoEffect ∷
+    form bgp_and_family (codes "neighbor _ activate") (OfBgp OfNeighbor) ∷
+    form bgp_and_family (codes "neighbor _ description") (OfBgp OfNeighbor) ∷
+    form bgp_and_family (codes "neighbor _ timers") (OfBgp OfNeighbor) ∷
+    form bgp_and_family (codes "neighbor _ send-community") (OfBgp OfNeighbor) ∷
     []
 
 -- the mode and those round it, the innermost first
 abbrev pub modes_from : Mode → List Mode
 modes_from Top = Top ∷ []
 modes_from InInterface = InInterface ∷ Top ∷ []
+modes_from InBgp = InBgp ∷ Top ∷ []
 modes_from InOspf = InOspf ∷ Top ∷ []
+modes_from InMap = InMap ∷ Top ∷ []
+modes_from InFamily = InFamily ∷ InBgp ∷ Top ∷ []
 
 -- the mode round a mode; round the top there is none
 abbrev pub outer : Mode → Mode
 outer Top = Top
 outer InInterface = Top
+outer InBgp = Top
 outer InOspf = Top
+outer InMap = Top
+outer InFamily = InBgp
 
 -- modes by number, to tell them apart
 abbrev pub rank : Mode → ℕ
 rank Top = 0
 rank InInterface = 1
-rank InOspf = 2
+rank InBgp = 2
+rank InOspf = 3
+rank InMap = 4
+rank InFamily = 5
 
 abbrev pub stands_in : FormValue → Mode → Bool
 stands_in f mode = list_any (λ m. rank m == rank mode) f.modes
+
+-- a word of a line is as the head wants it
+abbrev pub fits_word : List ℕ → List ℕ → Bool
+fits_word wanted word = same_text (codes "_") wanted || same_text wanted word
 
 -- the words behind the head, where a line begins with it
 abbrev pub behind : List (List ℕ) → List (List ℕ) → Option (List (List ℕ))
 behind [] line = Some line
 behind (wanted ∷ head) [] = None
-behind (wanted ∷ head) (word ∷ line) = if same_text wanted word then behind head line else None
+behind (wanted ∷ head) (word ∷ line) = if fits_word wanted word then behind head line else None
 
 -- a line as the table sees it: the mode in which it is taken, its row, and the words behind the head
 pub record FoundValue : Type 0 where

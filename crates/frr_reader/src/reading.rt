@@ -3,7 +3,7 @@
 ghost use Rattle.std.specs.Prelude.{◌≡◌, IfOk};
 ghost use Rattle.std.specs.List.{list_any};
 ghost use Rattle.net_types.specs.ConfigFacts.{IsConfig};
-ghost use Rattle.frr_reader.specs.Effects.{Takes};
+ghost use Rattle.frr_reader.specs.Answers.{Takes};
 ghost use Rattle.frr_reader.specs.FirstRefusal.{IsReadOnce};
 ghost use Rattle.frr_reader.specs.Reading.{is_control, begins_comment, by_words, step, refusal_of, reading, config_of, Answers};
 
@@ -11,7 +11,7 @@ use crate::causes::{Cause, LineRefusal};
 use crate::lines::{Line, Lines};
 use crate::state::Reader;
 use crate::table::find;
-use crate::words::Words;
+use frr_policy::{Words, words};
 use net_types::{ReadRefusal, RouterConfig};
 use std::alloc::Global;
 
@@ -22,8 +22,10 @@ const FILE_MAX: usize = 262_144;
 
 /// What a configuration file says of its router.
 ///
-/// A file is read line by line. The first line that is refused refuses the file; else there has to be a
-/// `hostname`. An answer without memory may come at any time.
+/// A file is read line by line. The first line that is refused refuses the file, in it the first cause in
+/// the order of `ReadRefusal`. Else there has to be a `hostname`, each map and list that a line names has to
+/// be defined, and each AS number that a line prepends has to be the file's own; of several such lines the
+/// least is named. An answer without memory may come at any time.
 pub fn read_router(alloc: Global, text: &[u8]) -> Result<RouterConfig, ReadRefusal>
     ensures exact { Answers (reading text.now) result }
     ensures kept { IfOk result IsConfig }
@@ -50,7 +52,7 @@ fn read_text(alloc: Global, text: &[u8]) -> Result<RouterConfig, ReadRefusal>
             Err(LineRefusal::NoMemory) => return Err(ReadRefusal::NoMemory),
         }
     }
-    reader.finish(alloc)
+    reader.finish()
 }
 
 // The refusal of a file by the refusal of a line.
@@ -58,13 +60,13 @@ fn refusal_of(cause: Cause, number: u64) -> ReadRefusal
     ensures { result ≡ refusal_of cause number }
 {
     match cause {
-        Cause::NotText
-        | Cause::LineTooLong
-        | Cause::Unsupported
-        | Cause::OutOfPlace
-        | Cause::BadValue
-        | Cause::Repeated
-        | Cause::OutOfLimit => ReadRefusal::Unsupported(number),
+        Cause::NotText => ReadRefusal::NotText(number),
+        Cause::LineTooLong => ReadRefusal::LineTooLong(number),
+        Cause::Unsupported => ReadRefusal::Unsupported(number),
+        Cause::OutOfPlace => ReadRefusal::OutOfPlace(number),
+        Cause::BadValue => ReadRefusal::BadValue(number),
+        Cause::Repeated => ReadRefusal::Repeated(number),
+        Cause::OutOfLimit => ReadRefusal::OutOfLimit(number),
     }
 }
 
@@ -78,7 +80,8 @@ fn take_line(reader: &mut Reader, alloc: Global, line: &Line<'_>) -> Result<(), 
     if line.text.len() > LINE_MAX {
         return Err(LineRefusal::Refused(Cause::LineTooLong));
     }
-    take_words(reader, alloc, &Words::new(line.text))?;
+    reader.begin_line(line.number);
+    take_words(reader, alloc, &words(line.text))?;
     if line.reach > FILE_MAX {
         return Err(LineRefusal::Refused(Cause::OutOfLimit));
     }
@@ -96,7 +99,7 @@ fn take_words(reader: &mut Reader, alloc: Global, words: &Words<'_>) -> Result<(
             Err(cause) => Err(LineRefusal::Refused(cause)),
             Ok(found) => {
                 reader.enter(found.mode);
-                reader.take(alloc, found.row, &found.rest)
+                reader.take(alloc, found.row, words, &found.rest)
             }
         },
     }

@@ -1,27 +1,47 @@
 //! What is known of a file after some of its lines, and what each row does to it.
 
-ghost use Rattle.std.specs.Prelude.{◌≡◌, ◌<◌, All, IfOk};
+ghost use Rattle.std.specs.Prelude.{◌≡◌};
+ghost use Rattle.frr_reader.specs.Answers.{Takes};
 ghost use Rattle.frr_reader.specs.State.{start};
-ghost use Rattle.frr_reader.specs.Reading.{config_of};
-ghost use Rattle.frr_reader.specs.Effects.{Takes, place_of, fresh_interface, effect, host_line, interface_line, address_line, area_line, cost_line, shutdown_line, ospf_line, network_line, exit_line, end_line};
+ghost use Rattle.frr_reader.specs.Reading.{judged, config_of};
+ghost use Rattle.frr_reader.specs.Effects.{effect, host_line, exit_line, end_line};
 
-use crate::causes::{BAD_VALUE, LineRefusal, OUT_OF_PLACE, REPEATED};
-use crate::table::{Mode, Row};
+mod interface_rows;
+mod policy_rows;
+
+use crate::bgp::Bgp;
+use crate::causes::{BAD_VALUE, LineRefusal, REPEATED};
+use crate::modes::Mode;
+use crate::needs::{self, Need};
+use crate::rows::Row;
 use crate::values;
-use crate::words::Words;
-use net_types::{Interface, List, Prefix, ReadRefusal, RouterConfig, Text};
-use std::alloc::{AllocError, Global};
+use frr_policy::Words;
+use net_types::{
+    BgpConfig, CommunityList, Interface, List, Prefix, PrefixList, ReadRefusal, RouteMap,
+    RouterConfig, Text,
+};
+use std::alloc::Global;
 use std::marker::Model;
 
 /// The configuration so far, and where in the file the next line stands.
 #[derive(Debug, Drop)]
 pub struct Reader {
+    // the number of the line
+    number: u64,
     mode: Mode,
-    // the place of the interface that is open, or was last
+    // the places of what is open, or was last: the interface, and the map and its entry
     open_place: usize,
+    open_map: usize,
+    open_entry: usize,
     host: Option<Text>,
     interfaces: Vec<Interface>,
     ospf: Option<List<Prefix>>,
+    bgp: Option<Bgp>,
+    prefix_lists: Vec<PrefixList>,
+    community_lists: Vec<CommunityList>,
+    maps: Vec<RouteMap>,
+    // what the lines need of the whole file
+    needed: Vec<Need>,
 }
 
 impl Model for Reader {
@@ -29,7 +49,7 @@ impl Model for Reader {
 
     ghost Value = { State };
 
-    ghost view = { λ r. record { mode = r.mode; open_place = r.open_place; host = r.host; interfaces = r.interfaces.items; ospf = r.ospf } };
+    ghost view = { λ r. record { number = r.number; mode = r.mode; open_place = r.open_place; open_map = r.open_map; open_entry = r.open_entry; host = r.host; interfaces = r.interfaces.items; ospf = r.ospf; bgp = r.bgp; prefix_lists = r.prefix_lists.items; community_lists = r.community_lists.items; maps = r.maps.items; needed = r.needed.items } };
 }
 
 impl Reader {
@@ -38,11 +58,19 @@ impl Reader {
         ensures { result ≡ start }
     {
         Reader {
+            number: 0,
             mode: Mode::Top,
             open_place: 0,
+            open_map: 0,
+            open_entry: 0,
             host: None,
             interfaces: Vec::new(alloc),
             ospf: None,
+            bgp: None,
+            prefix_lists: Vec::new(alloc),
+            community_lists: Vec::new(alloc),
+            maps: Vec::new(alloc),
+            needed: Vec::new(alloc),
         }
     }
 
@@ -53,6 +81,13 @@ impl Reader {
         self.mode
     }
 
+    /// The next line has this number.
+    pub fn begin_line(&mut self, number: u64)
+        ensures { self.new ≡ record self.old { number = number } }
+    {
+        self.number = number;
+    }
+
     /// The next line stands in this mode.
     pub fn enter(&mut self, mode: Mode)
         ensures { self.new ≡ record self.old { mode = mode } }
@@ -60,47 +95,67 @@ impl Reader {
         self.mode = mode;
     }
 
-    /// The configuration, where the host has a name.
-    pub fn finish(self, alloc: Global) -> Result<RouterConfig, ReadRefusal>
+    /// The configuration, where the host has a name, and the file has what its lines need.
+    pub fn finish(self) -> Result<RouterConfig, ReadRefusal>
         ensures { result ≡ config_of self self.host }
     {
         let Reader {
             host,
             interfaces,
             ospf,
-            mode: _,
-            open_place: _,
+            bgp,
+            prefix_lists,
+            community_lists,
+            maps,
+            needed,
+            ..
         } = self;
         match host {
             None => Err(ReadRefusal::NoHostname),
-            Some(host) => Ok(RouterConfig {
-                host,
-                interfaces: List::from_vec(interfaces),
-                ospf,
-                bgp: None,
-                prefix_lists: List::new(alloc),
-                community_lists: List::new(alloc),
-                maps: List::new(alloc),
-            }),
+            Some(host) => judge(
+                RouterConfig {
+                    host,
+                    interfaces: List::from_vec(interfaces),
+                    ospf,
+                    bgp: finished(bgp),
+                    prefix_lists: List::from_vec(prefix_lists),
+                    community_lists: List::from_vec(community_lists),
+                    maps: List::from_vec(maps),
+                },
+                needed.as_slice(),
+            ),
         }
     }
 
-    /// What the row does with the words behind its head.
+    /// What the row does, given the words of the line and those behind the row's head.
     #[tactic(auto, unfolding(crate::specs::Effects::effect))]
-    pub fn take(&mut self, alloc: Global, row: Row, rest: &Words<'_>) -> Result<(), LineRefusal>
-        ensures { Takes (effect row rest.now self.old) self.new result }
+    pub fn take(
+        &mut self,
+        alloc: Global,
+        row: Row,
+        line: &Words<'_>,
+        rest: &Words<'_>,
+    ) -> Result<(), LineRefusal>
+        ensures { Takes (effect row line.now rest.now self.old) self.new result }
     {
         match row {
             Row::HostName => self.take_host(alloc, rest),
             Row::OpenInterface => self.take_interface(alloc, rest),
+            Row::OpenBgp => self.take_bgp(alloc, rest),
             Row::OpenOspf => self.take_ospf(alloc, rest),
+            Row::PrefixListLine => self.take_prefix_list(alloc, rest),
+            Row::CommunityListLine => self.take_community_list(alloc, rest),
+            Row::MapLine => self.take_map(alloc, line),
             Row::Address => self.take_address(rest),
             Row::Area => self.take_area(rest),
             Row::Cost => self.take_cost(rest),
             Row::Shutdown => self.take_shutdown(rest),
-            Row::Network => self.take_network(rest),
+            Row::OspfNetwork => self.take_network(rest),
+            Row::OfBgp(row) => self.take_of_bgp(alloc, row, line, rest),
+            Row::OpenFamily => self.take_family(rest),
             Row::Exit => self.take_exit(rest),
             Row::End => self.take_end(rest),
+            Row::ExitFamily => self.take_exit_family(rest),
             Row::NoEffect => Ok(()),
         }
     }
@@ -114,126 +169,6 @@ impl Reader {
             Some(_host) if self.host.is_some() => Err(REPEATED),
             Some(host) => {
                 self.host = Some(values::ascii_text(alloc, host)?);
-                Ok(())
-            }
-        }
-    }
-
-    // The place of the interface of this name, or how many there are.
-    fn place_of(&self, name: &[u8]) -> usize
-        ensures { result ≡ place_of name.now self.now.interfaces }
-    {
-        self.interfaces
-            .iter()
-            .take_while(|interface| !values::is_same(interface.name.as_bytes(), name))
-            .count()
-    }
-
-    #[tactic(auto, unfolding(crate::specs::Effects::interface_line))]
-    fn take_interface(&mut self, alloc: Global, rest: &Words<'_>) -> Result<(), LineRefusal>
-        ensures { Takes (interface_line rest.now self.old) self.new result }
-    {
-        match values::name(rest) {
-            None => Err(BAD_VALUE),
-            Some(name) => {
-                let place = self.place_of(name);
-                if place >= self.interfaces.len() {
-                    self.interfaces.push(fresh_interface(alloc, name)?)?;
-                }
-                self.open_place = place;
-                self.mode = Mode::InInterface;
-                Ok(())
-            }
-        }
-    }
-
-    #[tactic(auto, unfolding(crate::specs::Effects::address_line))]
-    fn take_address(&mut self, rest: &Words<'_>) -> Result<(), LineRefusal>
-        ensures { Takes (address_line rest.now self.old) self.new result }
-    {
-        let place = self.open_place;
-        match values::interface_address(rest) {
-            None => Err(BAD_VALUE),
-            Some(_address) if place >= self.interfaces.len() => Err(OUT_OF_PLACE),
-            Some(_address) if self.interfaces[place].address.is_some() => Err(REPEATED),
-            Some(address) => {
-                self.interfaces[place].address = Some(address);
-                Ok(())
-            }
-        }
-    }
-
-    #[tactic(auto, unfolding(crate::specs::Effects::area_line))]
-    fn take_area(&mut self, rest: &Words<'_>) -> Result<(), LineRefusal>
-        ensures { Takes (area_line rest.now self.old) self.new result }
-    {
-        let place = self.open_place;
-        match values::area(rest) {
-            None => Err(BAD_VALUE),
-            Some(_area) if place >= self.interfaces.len() => Err(OUT_OF_PLACE),
-            Some(_area) if self.interfaces[place].ospf => Err(REPEATED),
-            Some(_area) => {
-                self.interfaces[place].ospf = true;
-                Ok(())
-            }
-        }
-    }
-
-    #[tactic(auto, unfolding(crate::specs::Effects::cost_line))]
-    fn take_cost(&mut self, rest: &Words<'_>) -> Result<(), LineRefusal>
-        ensures { Takes (cost_line rest.now self.old) self.new result }
-    {
-        let place = self.open_place;
-        match values::cost(rest) {
-            None => Err(BAD_VALUE),
-            Some(_cost) if place >= self.interfaces.len() => Err(OUT_OF_PLACE),
-            Some(_cost) if self.interfaces[place].cost.is_some() => Err(REPEATED),
-            Some(cost) => {
-                self.interfaces[place].cost = Some(cost);
-                Ok(())
-            }
-        }
-    }
-
-    #[tactic(auto, unfolding(crate::specs::Effects::shutdown_line))]
-    fn take_shutdown(&mut self, rest: &Words<'_>) -> Result<(), LineRefusal>
-        ensures { Takes (shutdown_line rest.now self.old) self.new result }
-    {
-        let place = self.open_place;
-        if !values::is_nothing(rest) {
-            return Err(BAD_VALUE);
-        }
-        if place >= self.interfaces.len() {
-            return Err(OUT_OF_PLACE);
-        }
-        self.interfaces[place].shutdown = true;
-        Ok(())
-    }
-
-    #[tactic(auto, unfolding(crate::specs::Effects::ospf_line))]
-    fn take_ospf(&mut self, alloc: Global, rest: &Words<'_>) -> Result<(), LineRefusal>
-        ensures { Takes (ospf_line rest.now self.old) self.new result }
-    {
-        if !values::is_nothing(rest) {
-            return Err(BAD_VALUE);
-        }
-        if self.ospf.is_none() {
-            self.ospf = Some(List::new(alloc));
-        }
-        self.mode = Mode::InOspf;
-        Ok(())
-    }
-
-    #[tactic(auto, unfolding(crate::specs::Effects::network_line))]
-    fn take_network(&mut self, rest: &Words<'_>) -> Result<(), LineRefusal>
-        ensures { Takes (network_line rest.now self.old) self.new result }
-    {
-        match values::network(rest) {
-            None => Err(BAD_VALUE),
-            Some(prefix) => {
-                if let Some(prefixes) = &mut self.ospf {
-                    prefixes.push(prefix)?;
-                }
                 Ok(())
             }
         }
@@ -262,16 +197,25 @@ impl Reader {
     }
 }
 
-// An interface of which nothing but its name is known.
-fn fresh_interface(alloc: Global, name: &[u8]) -> Result<Interface, AllocError>
-    requires { All (λ b. b < 128) name.now }
-    ensures { IfOk result (λ interface. interface ≡ fresh_interface name.now) }
+fn finished(bgp: Option<Bgp>) -> Option<BgpConfig>
+    ensures { result ≡ bgp }
 {
-    Ok(Interface {
-        name: values::ascii_text(alloc, name)?,
-        address: None,
-        shutdown: false,
-        ospf: false,
-        cost: None,
-    })
+    match bgp {
+        Some(bgp) => Some(bgp.finish()),
+        None => None,
+    }
+}
+
+// The configuration, where the file has what its lines need.
+#[tactic(auto, unfolding(crate::specs::Reading::judged))]
+fn judge(config: RouterConfig, needed: &[Need]) -> Result<RouterConfig, ReadRefusal>
+    ensures { result ≡ judged config needed.now }
+{
+    if let Some(line) = needs::first_undefined(&config, needed) {
+        return Err(ReadRefusal::Undefined(line));
+    }
+    if let Some(line) = needs::first_foreign(&config, needed) {
+        return Err(ReadRefusal::ForeignAs(line));
+    }
+    Ok(config)
 }

@@ -1,8 +1,12 @@
 //! Tables of named cases: what texts the definitions are meant to say.
 
+mod running;
+mod tables;
+
 use crate::read_router;
 use net_types::{Interface, Prefix, ReadRefusal, RouterConfig};
 use std::test::Fail;
+use tables::{ACCEPTED, REFUSED};
 
 // An interface as it should be read: name, address, subnet, and whether it runs OSPF.
 type Wanted = (&'static str, u32, &'static str, bool);
@@ -63,91 +67,6 @@ fn three_routers_in_a_line(rt: HostRuntime) -> Result<(), Fail> {
     Ok(())
 }
 
-// What may stand behind `hostname a`.
-static ACCEPTED: [(&str, &str); 13] = [
-    ("a name", ""),
-    (
-        "an interface opened twice",
-        "interface e\n ip address 10.0.0.1/8\ninterface e\n ip ospf area 0.0.0.0\n",
-    ),
-    ("a length of 1", "interface e\n ip address 10.0.0.1/1\n"),
-    ("the greatest cost", "interface e\n ip ospf cost 65535\n"),
-    ("shutdown twice", "interface e\n shutdown\n shutdown\n"),
-    (
-        "networks",
-        "router ospf\n network 10.0.0.1/0 area 0\n network 10.0.0.1/0 area 0.0.0.0\n",
-    ),
-    (
-        "OSPF reopened from an interface",
-        "router ospf\ninterface e\nrouter ospf\n network 10.0.0.0/8 area 0\n",
-    ),
-    ("exit and end at the top", "exit\nend\n"),
-    (
-        "not left by a comment",
-        "interface e\n! log\n  # log\n\n shutdown\n",
-    ),
-    (
-        "rows without effect",
-        "frr version 8.1\nfrr defaults traditional\nline vty\nip forwarding\nno ipv6 forwarding\n",
-    ),
-    (
-        "rows without effect inside",
-        "interface e\n description a b\n ip ospf network point-to-point\nrouter ospf\n ospf router-id 1.1.1.1\n",
-    ),
-    (
-        "CR LF and tabs",
-        "interface\te\r\n\tip\taddress 10.0.0.1/8 \r\n",
-    ),
-    ("no LF at the end", "interface e\n shutdown"),
-];
-
-// What may not stand behind `hostname a`, and the line that is refused.
-static REFUSED: [(&str, &str, u64); 23] = [
-    ("a second name", "hostname b\n", 2),
-    ("a name of two words", "interface a b\n", 2),
-    (
-        "a second address after that",
-        "interface e\n ip address 10.0.0.1/8\ninterface e\n ip address 10.0.0.2/8\n",
-        5,
-    ),
-    ("an address outside", " ip address 10.0.0.1/8\n", 2),
-    ("a length of 0", "interface e\n ip address 10.0.0.1/0\n", 3),
-    ("another area", "interface e\n ip ospf area 1\n", 3),
-    (
-        "the area twice",
-        "interface e\n ip ospf area 0\n ip ospf area 0\n",
-        4,
-    ),
-    ("a cost too high", "interface e\n ip ospf cost 65536\n", 3),
-    ("no cost", "interface e\n ip ospf cost 0\n", 3),
-    ("a row that is not there", "interface e\n no shutdown\n", 3),
-    (
-        "a network of no area",
-        "router ospf\n network 10.0.0.1/8\n",
-        3,
-    ),
-    ("a network outside", "network 10.0.0.1/8 area 0\n", 2),
-    ("an interface's row in OSPF", "router ospf\n shutdown\n", 3),
-    ("OSPF of a number", "router ospf 1\n", 2),
-    ("left by exit", "interface e\nexit\n shutdown\n", 4),
-    (
-        "left by end",
-        "router ospf\nend\n network 10.0.0.0/8 area 0\n",
-        4,
-    ),
-    ("exit with a word", "exit now\n", 2),
-    (
-        "left by a row without effect",
-        "interface e\nlog syslog\n shutdown\n",
-        4,
-    ),
-    ("a row in part", "frr defaults\n", 2),
-    ("no row", "neighbor 10.0.0.1 remote-as 1\n", 2),
-    ("a CR inside", "interface e\rf\n", 2),
-    ("a control byte in a comment", "! \u{1}\n", 2),
-    ("refused without LF", "interface e\n shutdown now", 3),
-];
-
 #[test]
 fn lines_that_are_accepted(rt: HostRuntime) -> Result<(), Fail> {
     for (name, lines) in &ACCEPTED {
@@ -160,14 +79,10 @@ fn lines_that_are_accepted(rt: HostRuntime) -> Result<(), Fail> {
 
 #[test]
 fn lines_that_are_refused(rt: HostRuntime) -> Result<(), Fail> {
-    for (name, lines, line) in &REFUSED {
+    for (name, lines, refusal) in &REFUSED {
         let text = format!(in rt.alloc(); "hostname a\n{lines}")?;
         let result = read(&rt, text.as_str());
-        assert_eq!(rt;
-            result.err(),
-            Some(ReadRefusal::Unsupported(*line)),
-            "{name}"
-        );
+        assert_eq!(rt; result.err(), Some(*refusal), "{name}");
     }
     Ok(())
 }
@@ -186,9 +101,9 @@ fn long_file(rt: &HostRuntime, comments: usize, empty: usize) -> Result<String, 
 
 #[test]
 fn limits(rt: HostRuntime) -> Result<(), Fail> {
-    for (len, refused) in [(512, false), (513, true)] {
+    for (len, refusal) in [(512, None), (513, Some(ReadRefusal::LineTooLong(2)))] {
         let line = format!(in rt.alloc(); "hostname a\n!{:>len$}\r\n", "x", len = len - 1)?;
-        assert_eq!(rt; read(&rt, line.as_str()).is_err(), refused, "{len}");
+        assert_eq!(rt; read(&rt, line.as_str()).err(), refusal, "{len}");
     }
     for (empty, refused) in [(1, None), (2, Some(131_069))] {
         let text = long_file(&rt, 131_066, empty)?;
@@ -196,11 +111,38 @@ fn limits(rt: HostRuntime) -> Result<(), Fail> {
             (Ok(_config), None) => assert_eq!(rt; text.len(), 262_144),
             (result, _) => assert_eq!(rt;
                 result.err(),
-                refused.map(ReadRefusal::Unsupported),
+                refused.map(ReadRefusal::OutOfLimit),
                 "{empty}"
             ),
         }
     }
     assert_eq!(rt; read(&rt, "!\n").err(), Some(ReadRefusal::NoHostname));
+    Ok(())
+}
+
+// A file of a map with entries of the numbers from 1 on.
+fn long_map(rt: &HostRuntime, entries: usize) -> Result<String, Fail> {
+    let mut text = String::from_str(rt.alloc(), "hostname a\n")?;
+    for number in 0..entries {
+        let line = format!(in rt.alloc(); "route-map M permit {}\n", number + 1)?;
+        text.push_str(line.as_str())?;
+    }
+    Ok(text)
+}
+
+#[test]
+fn entries_of_a_map(rt: HostRuntime) -> Result<(), Fail> {
+    let mut text = long_map(&rt, 64)?;
+    assert_eq!(rt; read(&rt, text.as_str()).err(), None);
+    text.push_str("route-map M deny 64\n")?;
+    assert_eq!(rt;
+        read(&rt, text.as_str()).err(),
+        Some(ReadRefusal::Repeated(66))
+    );
+    let text = long_map(&rt, 65)?;
+    assert_eq!(rt;
+        read(&rt, text.as_str()).err(),
+        Some(ReadRefusal::OutOfLimit(66))
+    );
     Ok(())
 }

@@ -2,9 +2,9 @@
 
 ghost use Rattle.std.specs.Prelude.{◌≡◌, ◌<◌, IfOk, IfSome, MatchOption, All, Some, None};
 ghost use Rattle.net_types.specs.Order.{same_text};
-ghost use Rattle.frr_reader.specs.Values.{is_nothing, host_of, name_of, area_of, cost_of, interface_address_of, masked_prefix_of, only, one, network_of};
+ghost use Rattle.frr_reader.specs.Values.{is_nothing, host_of, name_of, as_of, area_of, cost_of, interface_address_of, masked_prefix_of, only, one, network_of, two, is_unicast};
 
-use crate::words::Words;
+use frr_policy::Words;
 use net_types::{Prefix, Text, is_host, is_name, read_interface, read_number};
 use std::alloc::{AllocError, Global};
 
@@ -27,6 +27,19 @@ fn only<'a>(rest: &Words<'a>) -> Option<&'a [u8]>
     }
 }
 
+/// The two words of a rest that has no other.
+pub fn two<'a>(rest: &Words<'a>) -> Option<(&'a [u8], &'a [u8])>
+    ensures { MatchOption result (two rest.now ≡ None) (λ words. two rest.now ≡ Some (words.0.now, words.1.now)) }
+{
+    let mut rest = rest.again();
+    let first = rest.next()?;
+    let second = rest.next()?;
+    match rest.next() {
+        Some(_third) => None,
+        None => Some((first, second)),
+    }
+}
+
 /// Whether there is no word.
 pub fn is_nothing(rest: &Words<'_>) -> bool
     ensures { result ≡ is_nothing rest.now }
@@ -42,12 +55,22 @@ fn host_of(word: &[u8]) -> Option<&[u8]>
     if is_host(word) { Some(word) } else { None }
 }
 
+/// A name of 1 to 63 bytes from 33 to 126.
 #[tactic(auto, using(crate::proofs::ValueLemmas::name_ascii))]
-fn name_of(word: &[u8]) -> Option<&[u8]>
+pub fn name_of(word: &[u8]) -> Option<&[u8]>
     ensures ascii { IfSome result (λ name. All (λ b. b < 128) name.now) }
     ensures value { MatchOption result (name_of word.now ≡ None) (λ name. name_of word.now ≡ Some name.now) }
 {
     if is_name(word) { Some(word) } else { None }
+}
+
+fn as_of(word: &[u8]) -> Option<u32>
+    ensures { result ≡ as_of word.now }
+{
+    match read_number(word, 1, 4_294_967_295) {
+        Some(asn) => Some(asn as u32),
+        None => None,
+    }
 }
 
 fn area_of(word: &[u8]) -> Option<u32>
@@ -101,6 +124,32 @@ pub fn name<'a>(rest: &Words<'a>) -> Option<&'a [u8]>
     ensures value { MatchOption result (one name_of rest.now ≡ None) (λ name. one name_of rest.now ≡ Some name.now) }
 {
     name_of(only(rest)?)
+}
+
+/// An AS number, from 1 to 4,294,967,295.
+pub fn asn(rest: &Words<'_>) -> Option<u32>
+    ensures { result ≡ one as_of rest.now }
+{
+    as_of(only(rest)?)
+}
+
+/// The prefix of an address with a length from 0 to 32.
+pub fn masked_prefix(rest: &Words<'_>) -> Option<Prefix>
+    ensures { result ≡ one masked_prefix_of rest.now }
+{
+    masked_prefix_of(only(rest)?)
+}
+
+/// Whether the rest is the address family: `ipv4`, or `ipv4` and `unicast`.
+pub fn is_unicast(rest: &Words<'_>) -> bool
+    ensures { result ≡ is_unicast rest.now }
+{
+    let mut rest = rest.again();
+    match (rest.next(), rest.next(), rest.next()) {
+        (Some(family), None, None) => is_same(b"ipv4", family),
+        (Some(family), Some(word), None) => is_same(b"ipv4", family) && is_same(b"unicast", word),
+        _ => false,
+    }
 }
 
 /// The backbone area, which is the only one: `0` or `0.0.0.0`.

@@ -1,11 +1,13 @@
 //! A shelf over the folders of the machine.
 
-ghost use Rattle.std.specs.Prelude.{◌≤◌, IfOk, vec_len};
+ghost use Rattle.std.specs.Prelude.{◌≡◌, ◌≤◌, Err, IfOk, IfSome, MatchResult, length, take};
+ghost use Rattle.std.specs.Fs.{dir_entry_name};
+ghost use Rattle.std.specs.IoError.{error_kind};
 
 use crate::{Shelf, ShelfError};
 use net_types::{List, Text};
 use std::alloc::Global;
-use std::fs::{self, File, Files, ReadDir};
+use std::fs::{self, DirEntry, File, Files, ReadDir};
 use std::io::{self, ErrorKind, Read};
 use std::marker::Model;
 
@@ -27,7 +29,8 @@ impl<R> Model for DirShelf<R> {
 
 impl<R> DirShelf<R> {
     ghost use Rattle.std.specs.Prelude.{◌≡◌, ◌≢◌, ◌≤◌, ◌↔◌};
-    ghost use Rattle.outside.specs.Shelf.{IsRefusal};
+    ghost use Rattle.outside.specs.Shelf.{HasCause, IsRefusal};
+    ghost use Rattle.outside.specs.Machine.{Gives, Opens};
 
     /// The shelf over the files of a runtime, with a count of 0.
     pub fn new(files: R) -> DirShelf<R>
@@ -64,6 +67,30 @@ impl<R> DirShelf<R> {
             _ => self.refused(kind),
         }
     }
+
+    // What the machine opened, or why it did not.
+    fn opened<T>(&mut self, opened: io::Result<T>) -> Result<T, ShelfError>
+        ensures kept { self.old ≤ self.new }
+        ensures cause { HasCause self.old self.new result }
+        ensures value { Opens opened result }
+    {
+        match opened {
+            Ok(value) => Ok(value),
+            Err(error) => Err(self.not_opened(error.kind())),
+        }
+    }
+
+    // What the machine gave of what was opened, or why it did not.
+    fn given<T>(&mut self, given: io::Result<T>) -> Result<T, ShelfError>
+        ensures kept { self.old ≤ self.new }
+        ensures cause { HasCause self.old self.new result }
+        ensures value { Gives given result }
+    {
+        match given {
+            Ok(value) => Ok(value),
+            Err(error) => Err(self.refused(error.kind())),
+        }
+    }
 }
 
 impl<R: Files + AllocGlobal + Clone + Drop> Shelf for DirShelf<R> {
@@ -74,26 +101,27 @@ impl<R: Files + AllocGlobal + Clone + Drop> Shelf for DirShelf<R> {
     ghost content = { λ _. None };
 
     fn list(&mut self, alloc: Global, folder: &str) -> Result<List<Text>, ShelfError> {
-        let entries = match fs::read_dir(&self.files, folder) {
-            Ok(entries) => entries,
-            Err(error) => return Err(self.not_opened(error.kind())),
-        };
-        match names(alloc, entries) {
-            Ok(names) => Ok(names),
-            Err(error) => Err(self.refused(error.kind())),
-        }
+        let opened = fs::read_dir(&self.files, folder);
+        let entries = self.opened(opened)?;
+        self.given(names(alloc, entries))
     }
 
     fn read(&mut self, alloc: Global, path: &str, limit: u64) -> Result<List<u8>, ShelfError> {
-        let file = match File::open(&self.files, path) {
-            Ok(file) => file,
-            Err(error) => return Err(self.not_opened(error.kind())),
-        };
-        match first_bytes(alloc, file, limit) {
-            Ok(bytes) => Ok(List::from_vec(bytes)),
-            Err(error) => Err(self.refused(error.kind())),
-        }
+        let opened = File::open(&self.files, path);
+        let file = self.opened(opened)?;
+        self.given(first_bytes(alloc, file, limit))
     }
+}
+
+// The name of an entry, or the error in its place.
+fn name_of<R: Files + AllocGlobal + Clone + Drop>(
+    alloc: Global,
+    entry: io::Result<DirEntry<R>>,
+) -> io::Result<Text>
+    ensures { MatchResult entry (λ there. MatchResult result (λ name. name ≡ dir_entry_name there) (λ error. error_kind error ≡ ErrorKind.OutOfMemory)) (λ error. result ≡ Err error) }
+{
+    let entry = entry?;
+    Ok(Text::from_str(alloc, entry.file_name())?)
 }
 
 // The names of the entries of a folder.
@@ -103,19 +131,19 @@ fn names<R: Files + AllocGlobal + Clone + Drop>(
 ) -> io::Result<List<Text>> {
     let mut names = List::new(alloc);
     for entry in entries {
-        let entry = entry?;
-        names.push(Text::from_str(alloc, entry.file_name())?)?;
+        names.push(name_of(alloc, entry)?)?;
     }
     Ok(names)
 }
 
-// The first bytes of a file up to the limit.
-fn first_bytes<F: Read + Drop>(alloc: Global, file: F, limit: u64) -> io::Result<Vec<u8>>
-    ensures { IfOk result (λ bytes. vec_len bytes ≤ limit) }
+// The first bytes of a file up to the limit: of one that tells its bytes exactly those.
+fn first_bytes<F: Read + Drop>(alloc: Global, file: F, limit: u64) -> io::Result<List<u8>>
+    ensures within { IfOk result (λ bytes. length bytes ≤ limit) }
+    ensures told { IfOk result (λ bytes. IfSome (F.remaining file) (λ all. bytes ≡ take limit all)) }
 {
     let mut bytes = Vec::new(alloc);
     file.take(limit).read_to_end(&mut bytes)?;
     // No contract of the reader says that it kept the limit.
     bytes.truncate(limit as usize);
-    Ok(bytes)
+    Ok(List::from_vec(bytes))
 }

@@ -3,8 +3,9 @@
 //! Decides: what is known of every shelf of files and of every sink of bytes, and what the ones in
 //! memory answer. A shelf or a sink counts its faults, and may tell what it holds.
 //! Stands on: `net_types` alone.
-//! Promises: a call fails only where the count of faults rose in it, what is told is so, and the
-//! objects in memory answer exactly. Not: that a real folder or a real sink holds what its calls say.
+//! Promises: a call fails only where the count of faults rose in it, what is told is so, the objects in
+//! memory answer exactly, and a sink over a writer tells what the writer tells. Not: that a real folder
+//! or the real output holds what its calls say.
 #![tactic(auto)]
 
 mod calls;

@@ -4,39 +4,28 @@ ghost use Rattle.std.specs.Prelude.{◌≡◌};
 
 use crate::{Failed, Sink};
 use std::io::Write;
-use std::marker::Model;
 
-/// A writer, as the standard output. It does not tell what it was given, and counts every error, and
-/// a piece that has bytes of which none was taken.
+/// A writer, as the standard output. It tells what the writer tells: of a buffer its bytes, of the standard output
+/// nothing. It counts every error, and a piece that has bytes of which none was taken.
 #[derive(Drop)]
 pub struct OutSink<W> {
     writer: W,
     faults: u64,
 }
 
-impl<W> Model for OutSink<W> {
-    ghost use Rattle.std.specs.Prelude.{ℕ};
-
-    ghost Value = { ℕ };
-
-    ghost view = { λ it. it.faults };
-}
-
 impl<W> OutSink<W> {
     /// The sink over a writer, with a count of 0.
     pub fn new(writer: W) -> OutSink<W>
-        ensures { result ≡ 0 }
+        ensures { result ≡ record { writer = writer; faults = 0 } }
     {
         OutSink { writer, faults: 0 }
     }
 }
 
 impl<W: Write + Drop> Sink for OutSink<W> {
-    ghost use Rattle.std.specs.Prelude.{None};
+    ghost faults = { λ sink. sink.faults };
 
-    ghost faults = { λ sink. sink };
-
-    ghost given = { λ _. None };
+    ghost given = { λ sink. W.contents sink.writer };
 
     fn give(&mut self, bytes: &[u8]) -> Result<usize, Failed> {
         match self.writer.write(bytes) {

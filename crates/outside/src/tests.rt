@@ -1,6 +1,6 @@
 //! The objects in memory, on cases worked out by hand.
 
-use crate::{MemShelf, MemSink, Shelf, ShelfError, Sink, give_all};
+use crate::{MemShelf, MemSink, OutSink, Shelf, ShelfError, Sink, give_all};
 use net_types::{List, SourceFile, Text};
 use std::alloc::{AllocError, Global};
 use std::process::Abort;
@@ -146,5 +146,19 @@ fn whole_pieces_are_given(rt: HostRuntime) -> Result<(), Fail> {
         );
         assert_eq!(rt; sink.bytes(), bytes.as_bytes(), "{name}");
     }
+    Ok(())
+}
+
+#[test]
+fn a_writer_gets_what_is_given(rt: HostRuntime) -> Result<(), Fail> {
+    let mut written = Vec::new(rt.alloc());
+    let mut out = OutSink::new(&mut written);
+    assert!(rt; give_all(&mut out, b"abc").is_ok());
+    assert_eq!(rt; written.as_slice(), b"abc".as_slice());
+    let mut room = [0; 2];
+    let mut out = OutSink::new(room.as_mut_slice());
+    assert_eq!(rt; out.give(b"def").ok(), Some(2));
+    assert_eq!(rt; out.give(b"f").ok(), None);
+    assert_eq!(rt; room.as_slice(), b"de".as_slice());
     Ok(())
 }

@@ -1,9 +1,8 @@
 -- What a folder gives, from its listing.
-use Rattle.std.proofs.Common.{ℕ, ◌≡◌, Bool, true, false, List, refl, ap, sym, subst, ◌∙◌, IsTrue, if◌then◌else◌}
+use Rattle.std.proofs.Common.{ℕ, ◌≡◌, Bool, true, false, List, refl, ap, sym, ◌∙◌, IsTrue, if◌then◌else◌}
 use Rattle.std.proofs.lemmas.Bool.{false≢true}
 use Rattle.outside.specs.Content.{Content, IsListing, is_folder, names_in}
 use Rattle.route_desk.specs.Folder.{config_names, few_files_of, folder_of}
-use Rattle.route_desk.specs.Stops.{Gives}
 use Rattle.route_desk.proofs.NameLemmas.{config_names-IsPermutation}
 
 if_true : {A : Type 0} (b : Bool) (x y : A) → IsTrue b → (if b then x else y) ≡ x

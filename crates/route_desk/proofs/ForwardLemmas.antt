@@ -1,12 +1,11 @@
 -- Traffic that goes by next hops alone comes nearer with each step, so it is at an owner soon.
-use Rattle.std.proofs.Common.{ℕ, ◌≡◌, ◌<◌, ◌≤◌, ◌+◌, ◌*◌, ◌⊎◌, inl, inr, Bool, true, false, List, [], ◌∷◌, length, Option, Some, None, arith, sym, subst, ◌∙◌, refl}
+use Rattle.std.proofs.Common.{ℕ, ◌≡◌, ◌<◌, ◌≤◌, ◌+◌, ◌*◌, ◌⊎◌, inl, inr, true, false, List, [], ◌∷◌, length, Option, Some, None, arith, sym, ◌∙◌, refl}
 use Rattle.std.proofs.lemmas.Bool.{false≢true}
-use Rattle.net_types.specs.declared.arcs.Arc.{Arc}
 use Rattle.net_types.specs.NetFacts.{IsNet}
 use Rattle.net_types.specs.NetValue.{NetValue}
 use Rattle.net_types.specs.PrefixValue.{PrefixValue}
 use Rattle.net_types.specs.Owners.{owns}
-use Rattle.net_types.specs.Distance.{AreDistances, HasHop, IsDistance, IsWalk, distance_at}
+use Rattle.net_types.specs.Distance.{AreDistances, HasHop, distance_at}
 use Rattle.ospf_paths.proofs.LawLemmas.{far_routers_hop, none_at, tight_arcs_approach, within, within_few, within_some, within_less}
 use Rattle.route_desk.specs.Forwarding.{Forwards, IsForwardWalk, Reaches, last_of}
 use Rattle.route_desk.specs.Verdicts.{HasSureRoute}

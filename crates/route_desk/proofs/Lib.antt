@@ -1,8 +1,8 @@
-pub mod BookLemmas
 pub mod ZipLemmas
 pub mod NameLemmas
 pub mod FolderLemmas
 pub mod StopLemmas
+pub mod StableLemmas
 pub mod RunLemmas
 pub mod ForwardLemmas
 pub mod HoldsLemmas

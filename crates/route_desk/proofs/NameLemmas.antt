@@ -12,7 +12,7 @@ use Rattle.std.proofs.lemmas.Cmp.{nat_list_cmp_total}
 use Rattle.std.proofs.lemmas.List.Sorted.{list_any-IsPermutation}
 use Rattle.net_types.specs.Order.{same_text, text_before}
 use Rattle.topology.specs.Ascending.{is_there, put, ascending}
-use Rattle.topology.proofs.RisingLemmas.{IsOrder, Rises, Rises-ascending, insert-place, put_before}
+use Rattle.topology.proofs.RisingLemmas.{Rises, Rises-ascending, insert-place, put_before}
 use Rattle.topology.proofs.OrderLaws.{text_order}
 use Rattle.route_desk.specs.Folder.{config_names, is_config}
 

@@ -1,6 +1,6 @@
 -- Whether a property applies to a network: its routers are there, its prefix is owned, and the prefix
 -- overlaps no other owned prefix and no link's subnet. This project's own.
-use Rattle.std.specs.Prelude.{ℕ, ◌&&◌, ◌||◌, not, Bool, true, false, List as Seq, Option, Some, None, is_some, position, if◌then◌else◌}
+use Rattle.std.specs.Prelude.{ℕ, ◌&&◌, ◌||◌, not, Bool, true, List as Seq, Option, Some, None, is_some, position, if◌then◌else◌}
 use Rattle.std.specs.List.{list_any}
 use Rattle.net_types.specs.declared.network.Router.{Router}
 use Rattle.net_types.specs.declared.network.Owned.{Owned}

@@ -1,32 +1,39 @@
 -- How a check ends: the steps in their order, the first that refuses deciding.
-use Rattle.std.specs.Prelude.{ℕ, ◌≡◌, ◌==◌, ◌&&◌, ◌⊎◌, ◌++◌, not, Bool, true, false, List as Seq, [], ◌∷◌, codes, Option, Some, None, Result, Ok, Err, if◌then◌else◌}
+use Rattle.std.specs.Prelude.{ℕ, ◌≡◌, Bool, List as Seq, codes, find, Option, Some, None, is_some, option_map, Result, Ok, Err}
 use Rattle.net_types.specs.declared.config.SourceFile.{SourceFile}
 use Rattle.net_types.specs.declared.refusals.FormRefusal.{FormRefusal}
-use Rattle.net_types.specs.declared.refusals.BundleRefusal.{BundleRefusal}
+use Rattle.net_types.specs.declared.network.Router.{Router}
 use Rattle.net_types.specs.NetValue.{NetValue}
-use Rattle.net_types.specs.Order.{same_text}
-use Rattle.topology.specs.Bundle.{bundle_of}
 use Rattle.outside.specs.Content.{Content}
 use Rattle.route_desk.specs.declared.property.Property.{Property}
 use Rattle.route_desk.specs.declared.check.Inputs.{Inputs}
-use Rattle.route_desk.specs.declared.check.Report.{Report}
-use Rattle.route_desk.specs.declared.stop.Stop.{Stop}
-use Rattle.route_desk.specs.declared.stop.Stop.TheVariants.{Refused, ReadFault, NoMemory}
 use Rattle.route_desk.specs.declared.verdict.Outcome.{Outcome}
 use Rattle.route_desk.specs.Book.{book_of}
 use Rattle.route_desk.specs.Folder.{bytes_of, folder_of}
-use Rattle.route_desk.specs.Refusals.{bundle_text, form_text, refused_line}
+use Rattle.route_desk.specs.Refusals.{form_text, no_bgp_yet, refused_line}
 use Rattle.route_desk.specs.Report.{are_certified, report_of}
+use Rattle.route_desk.specs.Steps.{and_then, network_of}
 use Rattle.route_desk.specs.Verdicts.{IsOutcome}
 
--- a step's value, or the line of its refusal
-abbrev pub or_refused_bundle : Seq ℕ → Seq SourceFile → Result NetValue BundleRefusal → Result NetValue (Seq ℕ)
-or_refused_bundle side files (Ok net) = Ok net
-or_refused_bundle side files (Err refusal) = Err (refused_line side (bundle_text files refusal))
+-- the router speaks BGP
+abbrev pub speaks_bgp : Router → Bool
+speaks_bgp router = is_some router.asn
 
--- the network of a side's files
-unfoldable pub network_of : Seq ℕ → Seq SourceFile → Result NetValue (Seq ℕ)
-network_of side files = or_refused_bundle side files (bundle_of files)
+-- the host of the first router that speaks BGP
+abbrev pub first_speaker : NetValue → Option (Seq ℕ)
+first_speaker net = option_map (λ (router : Router). router.host) (find speaks_bgp net.routers)
+
+-- until the analysis knows BGP, a network in which some router speaks it is refused
+abbrev pub unless_bgp : Seq ℕ → NetValue → Option (Seq ℕ) → Result NetValue (Seq ℕ)
+unless_bgp side net None = Ok net
+unless_bgp side net (Some host) = Err (refused_line side (no_bgp_yet host))
+
+-- the network of a side's files that a check analyses
+abbrev pub analysed : Seq ℕ → NetValue → Result NetValue (Seq ℕ)
+analysed side net = unless_bgp side net (first_speaker net)
+
+unfoldable pub analysed_network : Seq ℕ → Seq SourceFile → Result NetValue (Seq ℕ)
+analysed_network side files = and_then (network_of side files) (analysed side)
 
 abbrev pub or_refused_form : Result (Seq Property) FormRefusal → Result (Seq Property) (Seq ℕ)
 or_refused_form (Ok book) = Ok book
@@ -36,16 +43,11 @@ or_refused_form (Err refusal) = Err (refused_line (codes "properties") (form_tex
 unfoldable pub properties_of : Seq ℕ → Result (Seq Property) (Seq ℕ)
 properties_of text = or_refused_form (book_of text)
 
--- the next step, unless this one is refused
-abbrev pub and_then : {A B : Type 0} → Result A (Seq ℕ) → (A → Result B (Seq ℕ)) → Result B (Seq ℕ)
-and_then (Ok value) next = next value
-and_then (Err line) next = Err line
-
 -- the inputs from the files that were read
 abbrev pub inputs_of : Seq SourceFile → Seq SourceFile → Seq ℕ → Result Inputs (Seq ℕ)
 inputs_of base new properties =
-    and_then (network_of (codes "base") base) (λ base_net.
-    and_then (network_of (codes "new") new) (λ new_net.
+    and_then (analysed_network (codes "base") base) (λ base_net.
+    and_then (analysed_network (codes "new") new) (λ new_net.
     and_then (properties_of properties) (λ book. Ok (record { base = base_net; new = new_net; book = book }))))
 
 -- the inputs of a check of two folders and a property file, or the line of the first step that refuses:
@@ -64,10 +66,3 @@ pub record IsReport (inputs : Inputs) (text : Seq ℕ) (certified : Bool) : Type
   pub new : IsOutcome inputs.new inputs.book on_new
   pub is : text ≡ report_of inputs.book inputs.base on_base inputs.new on_new
   pub status : certified ≡ are_certified on_new.verdicts
-
--- what a check comes to: the report of its inputs, or the line of its refusal
-abbrev pub Checks : Result Inputs (Seq ℕ) → Result Report Stop → Type 0
-Checks value (Ok report) = (inputs : Inputs) × (value ≡ Ok inputs) × IsReport inputs report.text report.certified
-Checks value (Err (Refused line)) = value ≡ Err line
-Checks value (Err ReadFault) = Unit {0}
-Checks value (Err NoMemory) = Unit {0}

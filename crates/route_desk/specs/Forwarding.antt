@@ -1,6 +1,6 @@
 -- Where traffic for a prefix goes at a labelling, and what a property means there. An owner delivers; a
 -- learned label goes to its sender; else traffic goes to each next hop of OSPF; else it is stuck.
-use Rattle.std.specs.Prelude.{ℕ, ◌≡◌, ◌<◌, ◌*◌, ◌⊎◌, Bool, true, false, List, [], ◌∷◌, length, Option, Some, None, Contains, slice_index_or}
+use Rattle.std.specs.Prelude.{ℕ, ◌≡◌, ◌<◌, ◌*◌, true, false, List, [], ◌∷◌, length, Option, Some, None, Contains, slice_index_or}
 use Rattle.net_types.specs.declared.routes.Route.{Route}
 use Rattle.net_types.specs.declared.routes.Source.{Source}
 use Rattle.net_types.specs.declared.routes.Source.TheVariants.{Local, Learned}

@@ -5,7 +5,11 @@ pub mod Verdicts
 pub mod Refusals
 pub mod Folder
 pub mod Stops
+pub mod Steps
+pub mod Commands
+pub mod Asked
 pub mod Ending
+pub mod StableEnding
 pub mod Running
 pub mod Forwarding
 pub mod Meaning

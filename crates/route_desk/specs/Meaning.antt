@@ -1,5 +1,5 @@
 -- What a certificate means: the property holds. In a network without sessions no router has a label.
-use Rattle.std.specs.Prelude.{ℕ, ◌≡◌, List as Seq, [], Option, Some, None}
+use Rattle.std.specs.Prelude.{ℕ, ◌≡◌, List as Seq, [], Option, Some}
 use Rattle.net_types.specs.NetValue.{NetValue}
 use Rattle.net_types.specs.Distance.{AreDistances}
 use Rattle.route_desk.specs.declared.property.Property.{Property}

@@ -1,5 +1,5 @@
 -- The texts of refusals, one line each.
-use Rattle.std.specs.Prelude.{ℕ, List as Seq, [], codes, slice_get, Option, Some, None}
+use Rattle.std.specs.Prelude.{ℕ, List as Seq, [], codes, slice_get}
 use Rattle.std.specs.Fmt.{decimal}
 use Rattle.std.specs.Option.{option_map_or}
 use Rattle.net_types.specs.declared.config.SourceFile.{SourceFile}
@@ -59,6 +59,10 @@ bundle_text files (Bundle.TooLarge bytes) = with_number (codes "TooLarge") bytes
 bundle_text files (Bundle.InFile i refusal) = file_name files i then codes ": " then read_text refusal
 bundle_text files (Bundle.InNet refusal) = net_text files refusal
 bundle_text files Bundle.NoMemory = []
+
+-- a router that speaks BGP, which is not analysed yet
+abbrev pub no_bgp_yet : Seq ℕ → Seq ℕ
+no_bgp_yet host = codes "NoBgpYet " then host
 
 unfoldable pub form_text : FormRefusal → Seq ℕ
 form_text Form.TooLong = codes "TooLong"

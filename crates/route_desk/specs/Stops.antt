@@ -1,6 +1,7 @@
 -- What a step of a command answers: its value, or the line of its refusal.
-use Rattle.std.specs.Prelude.{ℕ, ◌≡◌, ◌≤◌, List as Seq, Result, Ok, Err}
+use Rattle.std.specs.Prelude.{ℕ, ◌≡◌, ◌≤◌, Bool, List as Seq, Result, Ok, Err}
 use Rattle.outside.specs.Faults.{Rose}
+use Rattle.route_desk.specs.declared.answer.Answer.{Answer}
 use Rattle.route_desk.specs.declared.stop.Stop.{Stop}
 use Rattle.route_desk.specs.declared.stop.Stop.TheVariants.{Refused, ReadFault, NoMemory}
 
@@ -30,3 +31,10 @@ abbrev pub StopsAt : Seq ℕ → Stop → Type 0
 StopsAt wanted (Refused line) = line ≡ wanted
 StopsAt wanted ReadFault = ⊥
 StopsAt wanted NoMemory = Unit {0}
+
+-- what a command comes to: the answer on its inputs, or the line of the step that refuses
+abbrev pub Comes : {A : Type 0} → (A → Seq ℕ → Bool → Type 0) → Result A (Seq ℕ) → Result Answer Stop → Type 0
+Comes {A} Is value (Ok answer) = (inputs : A) × (value ≡ Ok inputs) × Is inputs answer.text answer.good
+Comes Is value (Err (Refused line)) = value ≡ Err line
+Comes Is value (Err ReadFault) = Unit {0}
+Comes Is value (Err NoMemory) = Unit {0}

@@ -1,5 +1,5 @@
 -- What a property's verdict is in a network without sessions, with no failed link; and the cases of a book.
-use Rattle.std.specs.Prelude.{ℕ, ◌≡◌, ◌+◌, ◌==◌, ◌&&◌, ◌⊎◌, Bool, true, false, List as Seq, [], ◌∷◌, length, map, filter, Option, Some, None, is_none, if◌then◌else◌}
+use Rattle.std.specs.Prelude.{ℕ, ◌≡◌, ◌+◌, ◌⊎◌, Bool, true, List as Seq, [], ◌∷◌, map, filter, Some, None, is_none, if◌then◌else◌}
 use Rattle.std.specs.List.{list_any, AllZip}
 use Rattle.net_types.specs.declared.arcs.Arc.{Arc}
 use Rattle.net_types.specs.NetValue.{NetValue}
@@ -8,7 +8,6 @@ use Rattle.net_types.specs.PrefixValue.{PrefixValue}
 use Rattle.net_types.specs.Prefixes.{same_prefix}
 use Rattle.net_types.specs.Distance.{IsWalk}
 use Rattle.route_desk.specs.declared.property.Property.{Property}
-use Rattle.route_desk.specs.declared.verdict.Barred.{Barred}
 use Rattle.route_desk.specs.declared.verdict.Broken.{Broken}
 use Rattle.route_desk.specs.declared.verdict.Broken.TheVariants.{NoSureRoute}
 use Rattle.route_desk.specs.declared.verdict.Verdict.{Verdict}

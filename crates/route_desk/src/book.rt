@@ -1,81 +1,23 @@
 //! Reads the property file.
 
-ghost use Rattle.std.specs.Prelude.{◌≡◌, ◌≤◌, ◌<◌, ◌+◌, [], IfOk, IfErr, IfSome, All, Ok, Err, Some, None, option_map, option_and_then, length, codes, if◌then◌else◌};
-ghost use Rattle.toml.specs.Data.{as_integer, get_member};
-ghost use Rattle.toml.specs.View.{table_view, array_view, view};
-ghost use Rattle.route_desk.specs.Book.{Answers, IsAsked, fits, are_fields, are_tables, book_of, failures_at, host_at, first_repeat, is_analysed, is_field, is_named_in, is_waypoint, kind_at, kind_of, prefix_at, properties_from, property_in, property_of, same_word, tables_of, text_at, with_names, book_of_tables, has_only_property, if_tables, tables_in};
+ghost use Rattle.std.specs.Prelude.{◌≡◌, ◌∷◌, [], IfOk, IfSome, All, option_map, option_and_then, codes};
+ghost use Rattle.std.specs.List.{list_any};
+ghost use Rattle.toml.specs.Data.{as_table};
+ghost use Rattle.toml.specs.View.{table_view, items_view, view};
+ghost use Rattle.net_types.specs.Order.{same_text};
+ghost use Rattle.toml_fields.specs.Fields.{has_only};
+ghost use Rattle.toml_fields.specs.Tables.{rows_from, first_repeat};
+ghost use Rattle.toml_fields.specs.Document.{Answers, then_form};
+ghost use Rattle.route_desk.specs.Book.{IsAsked, fits, book_of, book_of_top, is_analysed, is_same_name, keys_of, kind_at, kind_of, property_of, tables_of, with_names};
 
 use crate::property::{Kind, Property};
-use net_types::{FormRefusal, List, NoMemory, Prefix, Text, is_host};
+use net_types::{FormRefusal, List, NoMemory, Prefix, Text};
 use std::alloc::Global;
-use toml::value::Array;
 use toml::{Table, Value};
-
-/// The most bytes that a property file may have.
-const MOST_BYTES: usize = 262144;
+use toml_fields::{document, has_only, host_at, number_at, prefix_at, tables_at, text_at};
 
 /// The most properties that a book may have.
 const MOST_PROPERTIES: usize = 64;
-
-// The value at a key.
-fn value_at<'a>(table: &'a Table, key: &str) -> Option<&'a Value>
-    ensures { option_map (λ value. view value.now) result ≡ get_member key.now (table_view table.now) }
-{
-    table.get(key)
-}
-
-// The text at a key.
-fn text_at<'a>(table: &'a Table, key: &str) -> Option<&'a str>
-    ensures { option_map (λ s. s.now) result ≡ text_at key.now (table_view table.now) }
-{
-    match value_at(table, key) {
-        Some(value) => value.as_str(),
-        None => None,
-    }
-}
-
-// The name of a host at a key.
-fn host_at<'a>(table: &'a Table, key: &str) -> Option<&'a str>
-    ensures { option_map (λ s. s.now) result ≡ host_at key.now (table_view table.now) }
-{
-    match text_at(table, key) {
-        Some(text) if is_host(text.as_bytes()) => Some(text),
-        _ => None,
-    }
-}
-
-fn prefix_at(table: &Table, key: &str) -> Option<Prefix>
-    ensures { result ≡ prefix_at key.now (table_view table.now) }
-{
-    match text_at(table, key) {
-        Some(text) => Prefix::read(text.as_bytes()),
-        None => None,
-    }
-}
-
-fn integer_at(table: &Table, key: &str) -> Option<i64>
-    ensures { result ≡ option_and_then as_integer (get_member key.now (table_view table.now)) }
-{
-    match value_at(table, key) {
-        Some(value) => value.as_integer(),
-        None => None,
-    }
-}
-
-fn failures_at(table: &Table, key: &str) -> Option<u8>
-    ensures { result ≡ failures_at key.now (table_view table.now) }
-{
-    match integer_at(table, key) {
-        Some(number) => {
-            if 0 <= number && number < 4 {
-                Some(number as u8)
-            } else {
-                None
-            }
-        }
-        None => None,
-    }
-}
 
 // The kind that the word says, a waypoint going through this host.
 fn kind_of(alloc: Global, word: &str, via: Option<&str>) -> Result<Option<Kind>, NoMemory>
@@ -105,12 +47,6 @@ fn kind_at(alloc: Global, table: &Table) -> Result<Option<Kind>, NoMemory>
     }
 }
 
-fn is_waypoint(kind: &Kind) -> bool
-    ensures { result ≡ is_waypoint kind.now }
-{
-    matches!(kind, Kind::Waypoint(_))
-}
-
 // Until failure sets are analysed, a property can ask to reach with no failed link alone.
 fn is_analysed(kind: &Kind, failures: u8) -> bool
     ensures { result ≡ is_analysed kind.now failures }
@@ -121,26 +57,17 @@ fn is_analysed(kind: &Kind, failures: u8) -> bool
     }
 }
 
-fn is_field(waypoint: bool, key: &str) -> bool
-    ensures { result ≡ is_field waypoint key.now }
+// Whether the table has no other key than a property of this kind.
+fn has_only_keys(kind: &Kind, table: &Table) -> bool
+    ensures { result ≡ has_only (keys_of kind.now) (table_view table.now) }
 {
-    key == "name"
-        || key == "kind"
-        || key == "router"
-        || key == "prefix"
-        || key == "failures"
-        || (waypoint && key == "via")
-}
-
-fn are_fields(waypoint: bool, table: &Table) -> bool
-    ensures { result ≡ are_fields waypoint (table_view table.now) }
-{
-    for (key, _) in table.iter() {
-        if !is_field(waypoint, key.as_str()) {
-            return false;
-        }
+    match kind {
+        Kind::Waypoint(_) => has_only(
+            table,
+            &["via", "name", "kind", "router", "prefix", "failures"],
+        ),
+        _ => has_only(table, &["name", "kind", "router", "prefix", "failures"]),
     }
-    true
 }
 
 // The property of these fields.
@@ -167,7 +94,7 @@ fn made(
 fn fits(table: &Table, kind: &Kind, failures: u8) -> bool
     ensures { result ≡ fits (table_view table.now) kind.now failures }
 {
-    are_fields(is_waypoint(kind), table) && is_analysed(kind, failures)
+    has_only_keys(kind, table) && is_analysed(kind, failures)
 }
 
 // The property of a table, where each of its fields is there, known and in range.
@@ -188,9 +115,10 @@ fn property_of(alloc: Global, table: &Table) -> Result<Option<Property>, NoMemor
     let Some(prefix) = prefix_at(table, "prefix") else {
         return Ok(None);
     };
-    let Some(failures) = failures_at(table, "failures") else {
+    let Some(failures) = number_at(table, "failures", 0, 3) else {
         return Ok(None);
     };
+    let failures = failures as u8;
     if !fits(table, &kind, failures) {
         return Ok(None);
     }
@@ -199,7 +127,7 @@ fn property_of(alloc: Global, table: &Table) -> Result<Option<Property>, NoMemor
 
 // The property of a value, where it is a table of one.
 fn property_in(alloc: Global, value: &Value) -> Result<Option<Property>, NoMemory>
-    ensures value { IfOk result (λ property. property ≡ property_in (view value.now)) }
+    ensures value { IfOk result (λ property. property ≡ option_and_then property_of (as_table (view value.now))) }
     ensures asked { IfOk result (λ property. IfSome property IsAsked) }
 {
     match value.as_table() {
@@ -208,24 +136,13 @@ fn property_in(alloc: Global, value: &Value) -> Result<Option<Property>, NoMemor
     }
 }
 
-fn are_tables(items: &Array) -> bool
-    ensures { result ≡ are_tables (array_view items.now) }
-{
-    for value in items.iter() {
-        if value.as_table().is_none() {
-            return false;
-        }
-    }
-    true
-}
-
 // The properties of the tables, or the place of the first that has none.
-fn properties(alloc: Global, items: &Array) -> Result<List<Property>, FormRefusal>
-    ensures value { Answers (properties_from 1 (array_view items.now)) result }
+fn properties(alloc: Global, tables: &[Value]) -> Result<List<Property>, FormRefusal>
+    ensures value { Answers (rows_from property_of 1 (items_view tables.now)) result }
     ensures asked { IfOk result (λ book. All IsAsked book) }
 {
     let mut all = List::new(alloc);
-    for (i, value) in items.iter().enumerate() {
+    for (i, value) in tables.iter().enumerate() {
         match property_in(alloc, value)? {
             Some(property) => all.push(property)?,
             None => return Err(FormRefusal::BadField(i as u64 + 1)),
@@ -235,7 +152,7 @@ fn properties(alloc: Global, items: &Array) -> Result<List<Property>, FormRefusa
 }
 
 fn is_named_in(properties: &[Property], name: &Text) -> bool
-    ensures { result ≡ is_named_in properties.now name.now }
+    ensures { result ≡ list_any (λ property. same_text property.name name.now) properties.now }
 {
     properties
         .iter()
@@ -244,7 +161,7 @@ fn is_named_in(properties: &[Property], name: &Text) -> bool
 
 // The place of the first property that repeats the name of one before it.
 fn first_repeat(properties: &[Property]) -> Option<u64>
-    ensures { result ≡ first_repeat 1 [] properties.now }
+    ensures { result ≡ first_repeat is_same_name 1 [] properties.now }
 {
     for (i, property) in properties.iter().enumerate() {
         if is_named_in(&properties[..i], &property.name) {
@@ -256,7 +173,7 @@ fn first_repeat(properties: &[Property]) -> Option<u64>
 
 fn with_names(properties: List<Property>) -> Result<List<Property>, FormRefusal>
     requires { All IsAsked properties }
-    ensures value { result ≡ with_names (Ok properties) }
+    ensures value { result ≡ with_names properties }
     ensures asked { IfOk result (λ book. All IsAsked book) }
 {
     if let Some(place) = first_repeat(properties.as_slice()) {
@@ -268,69 +185,37 @@ fn with_names(properties: List<Property>) -> Result<List<Property>, FormRefusal>
     Ok(properties)
 }
 
-fn has_only_property(top: &Table) -> bool
-    ensures { result ≡ has_only_property (table_view top.now) }
+// The tables of the array `property`, where the top level has nothing else.
+#[tactic(auto, unfolding(crate::specs::Book::tables_of))]
+fn tables_of(top: &Table) -> Option<&[Value]>
+    ensures { option_map (λ tables. items_view tables.now) result ≡ tables_of (table_view top.now) }
 {
-    for (key, _) in top.iter() {
-        if key.as_str() != "property" {
-            return false;
-        }
+    if has_only(top, &["property"]) {
+        tables_at(top, "property")
+    } else {
+        None
     }
-    true
 }
 
-// The properties of the tables of the array.
-fn book_of_array(alloc: Global, items: &Array) -> Result<List<Property>, FormRefusal>
-    ensures value { Answers (book_of_tables (if_tables (array_view items.now))) result }
+// The properties of the tables of an array.
+fn book_of_tables(alloc: Global, tables: &[Value]) -> Result<List<Property>, FormRefusal>
+    ensures value { Answers (then_form (rows_from property_of 1 (items_view tables.now)) with_names) result }
     ensures asked { IfOk result (λ book. All IsAsked book) }
 {
-    if !are_tables(items) {
-        return Err(FormRefusal::BadField(0));
-    }
-    with_names(properties(alloc, items)?)
-}
-
-// The properties of the value of `property`.
-fn book_of_value(alloc: Global, value: &Value) -> Result<List<Property>, FormRefusal>
-    ensures value { Answers (book_of_tables (tables_in (Some (view value.now)))) result }
-    ensures asked { IfOk result (λ book. All IsAsked book) }
-{
-    match value.as_array() {
-        Some(items) => book_of_array(alloc, items),
-        None => Err(FormRefusal::BadField(0)),
+    match properties(alloc, tables) {
+        Ok(all) => with_names(all),
+        Err(refusal) => Err(refusal),
     }
 }
 
 // The properties of a document's top level.
-#[tactic(auto, unfolding(crate::specs::Book::tables_of))]
 fn book_of_top(alloc: Global, top: &Table) -> Result<List<Property>, FormRefusal>
-    ensures value { Answers (book_of_tables (tables_of (table_view top.now))) result }
+    ensures value { Answers (book_of_top (table_view top.now)) result }
     ensures asked { IfOk result (λ book. All IsAsked book) }
 {
-    if !has_only_property(top) {
-        return Err(FormRefusal::BadField(0));
-    }
-    match value_at(top, "property") {
-        Some(value) => book_of_value(alloc, value),
-        None => Ok(List::new(alloc)),
-    }
-}
-
-// The top level of a document that is not too long.
-fn document(alloc: Global, text: &[u8]) -> Result<Table, FormRefusal>
-    requires { length text.now ≤ 262144 }
-    ensures ok { IfOk result (λ top. book_of text.now ≡ book_of_tables (tables_of (table_view top))) }
-    ensures err { IfErr result (λ refusal. Answers (book_of text.now) (Err refusal)) }
-{
-    match toml::table_from_slice(alloc, text) {
-        Ok(top) => Ok(top),
-        Err(error) => {
-            if error.is_memory() {
-                Err(FormRefusal::NoMemory)
-            } else {
-                Err(FormRefusal::NotToml)
-            }
-        }
+    match tables_of(top) {
+        Some(tables) => book_of_tables(alloc, tables),
+        None => Err(FormRefusal::BadField(0)),
     }
 }
 
@@ -340,9 +225,6 @@ pub fn read_properties(alloc: Global, text: &[u8]) -> Result<List<Property>, For
     ensures value { Answers (book_of text.now) result }
     ensures asked { IfOk result (λ book. All IsAsked book) }
 {
-    if text.len() > MOST_BYTES {
-        return Err(FormRefusal::TooLong);
-    }
     match document(alloc, text) {
         Ok(top) => book_of_top(alloc, &top),
         Err(refusal) => Err(refusal),

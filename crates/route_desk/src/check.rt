@@ -1,24 +1,26 @@
 //! The command `check`: the report of a change of configurations.
 
-ghost use Rattle.std.specs.Prelude.{◌≡◌, ◌≤◌, All, IfOk, Ok, Err, Some, codes, string_bytes, length};
+ghost use Rattle.std.specs.Prelude.{◌≡◌, ◌≤◌, All, IfOk, Ok, Err, Some, codes, option_map, string_bytes, length};
 ghost use Rattle.net_types.specs.NetValue.{NetValue};
 ghost use Rattle.outside.specs.Content.{Content};
 ghost use Rattle.route_desk.specs.Book.{IsAsked};
-ghost use Rattle.route_desk.specs.Ending.{Checks, IsReport, check_inputs, inputs_of, network_of, properties_of};
-ghost use Rattle.route_desk.specs.Refusals.{bundle_text, form_text, refused_line};
-ghost use Rattle.route_desk.specs.Stops.{Gives, HasCause, IsCalm, StopsAt};
+ghost use Rattle.route_desk.specs.Ending.{IsReport, analysed, analysed_network, check_inputs, first_speaker, inputs_of, properties_of, speaks_bgp};
+ghost use Rattle.route_desk.specs.Refusals.{no_bgp_yet, refused_line};
+ghost use Rattle.route_desk.specs.Stops.{Comes, Gives, HasCause, IsCalm, StopsAt};
 
+use crate::answer::Answer;
 use crate::book::read_properties;
+use crate::bundle::network_of;
 use crate::folder::{read_file, read_folder};
+use crate::form::form_refused;
 use crate::property::Property;
-use crate::refusal_texts::{bundle_text, form_text, refused_line};
+use crate::refusal_texts::{no_bgp_yet, refused_line};
 use crate::report_text::{Side, are_certified, report};
 use crate::stop::Stop;
 use crate::verdicts::outcome_of;
-use net_types::{BundleRefusal, FormRefusal, List, Net, NoMemory, SourceFile, Text};
+use net_types::{FormRefusal, List, Net, NoMemory, Router, SourceFile, Text};
 use outside::Shelf;
 use std::alloc::Global;
-use topology::read_bundle;
 
 /// What a check comes to: the two networks and the book that its report is of.
 #[derive(Drop)]
@@ -31,56 +33,58 @@ pub struct Inputs {
     pub book: List<Property>,
 }
 
-fn bundle_line(
-    alloc: Global,
-    side: &str,
-    files: &[SourceFile],
-    refusal: BundleRefusal,
-) -> Result<String, NoMemory>
-    ensures { IfOk result (λ line. string_bytes line ≡ refused_line side.now (bundle_text files.now refusal)) }
+fn speaks_bgp(router: &Router) -> bool
+    ensures { result ≡ speaks_bgp router.now }
 {
-    let cause = bundle_text(alloc, files, refusal)?;
+    router.asn.is_some()
+}
+
+// The host of the first router that speaks BGP.
+fn first_speaker(net: &Net) -> Option<&str>
+    ensures { option_map (λ host. host.now) result ≡ first_speaker net.now }
+{
+    match net.routers().iter().find(|router| speaks_bgp(router)) {
+        Some(router) => Some(router.host.as_str()),
+        None => None,
+    }
+}
+
+fn no_bgp_line(alloc: Global, side: &str, host: &str) -> Result<String, NoMemory>
+    ensures { IfOk result (λ line. string_bytes line ≡ refused_line side.now (no_bgp_yet host.now)) }
+{
+    let cause = no_bgp_yet(alloc, host)?;
     refused_line(alloc, side, cause.as_str())
 }
 
-// The stop at a refused bundle.
-fn bundle_refused(alloc: Global, side: &str, files: &[SourceFile], refusal: BundleRefusal) -> Stop
-    ensures { StopsAt (refused_line side.now (bundle_text files.now refusal)) result }
+// The stop at a router that speaks BGP, which is not analysed yet.
+fn bgp_refused(alloc: Global, side: &str, host: &str) -> Stop
+    ensures { StopsAt (refused_line side.now (no_bgp_yet host.now)) result }
 {
-    match bundle_line(alloc, side, files, refusal) {
+    match no_bgp_line(alloc, side, host) {
         Ok(line) => Stop::Refused(Text::from_string(line)),
         Err(NoMemory) => Stop::NoMemory,
     }
 }
 
-fn form_line(alloc: Global, refusal: FormRefusal) -> Result<String, NoMemory>
-    ensures { IfOk result (λ line. string_bytes line ≡ refused_line (codes "properties") (form_text refusal)) }
-{
-    let cause = form_text(alloc, refusal)?;
-    refused_line(alloc, "properties", cause.as_str())
-}
-
-// The stop at a refused property file.
-fn form_refused(alloc: Global, refusal: FormRefusal) -> Stop
-    ensures { StopsAt (refused_line (codes "properties") (form_text refusal)) result }
-{
-    match form_line(alloc, refusal) {
-        Ok(line) => Stop::Refused(Text::from_string(line)),
-        Err(NoMemory) => Stop::NoMemory,
-    }
-}
-
-// The network of a side's files.
-#[tactic(auto, unfolding(crate::specs::Ending::network_of))]
-fn network_of(alloc: Global, side: &str, files: &[SourceFile]) -> Result<Net, Stop>
-    ensures gives { Gives (network_of side.now files.now) result }
+// The network, unless a router of it speaks BGP.
+fn analysed(alloc: Global, side: &str, net: Net) -> Result<Net, Stop>
+    ensures gives { Gives (analysed side.now net) result }
     ensures calm { IsCalm result }
 {
-    match read_bundle(alloc, files) {
-        Ok(net) => Ok(net),
-        Err(BundleRefusal::NoMemory) => Err(Stop::NoMemory),
-        Err(refusal) => Err(bundle_refused(alloc, side, files, refusal)),
+    if let Some(host) = first_speaker(&net) {
+        return Err(bgp_refused(alloc, side, host));
     }
+    Ok(net)
+}
+
+// The network of a side's files that a check analyses.
+#[tactic(auto, unfolding(crate::specs::Ending::analysed_network))]
+fn analysed_network(alloc: Global, side: &str, files: &[SourceFile]) -> Result<Net, Stop>
+    ensures gives { Gives (analysed_network side.now files.now) result }
+    ensures calm { IsCalm result }
+{
+    let net = network_of(alloc, side, files)?;
+    analysed(alloc, side, net)
 }
 
 // The book of a property file.
@@ -93,7 +97,7 @@ fn properties_of(alloc: Global, text: &[u8]) -> Result<List<Property>, Stop>
     match read_properties(alloc, text) {
         Ok(book) => Ok(book),
         Err(FormRefusal::NoMemory) => Err(Stop::NoMemory),
-        Err(refusal) => Err(form_refused(alloc, refusal)),
+        Err(refusal) => Err(form_refused(alloc, "properties", refusal)),
     }
 }
 
@@ -108,8 +112,8 @@ fn inputs_of(
     ensures asked { IfOk result (λ inputs. All IsAsked inputs.book) }
     ensures calm { IsCalm result }
 {
-    let base = network_of(alloc, "base", base)?;
-    let new = network_of(alloc, "new", new)?;
+    let base = analysed_network(alloc, "base", base)?;
+    let new = analysed_network(alloc, "new", new)?;
     let book = properties_of(alloc, properties)?;
     Ok(Inputs { base, new, book })
 }
@@ -133,19 +137,10 @@ fn check_inputs<F: Shelf>(
     inputs_of(alloc, base.as_slice(), new.as_slice(), text.as_slice())
 }
 
-/// A report, and whether every verdict of the new side is a certificate.
-#[derive(Drop)]
-pub struct Report {
-    /// The text.
-    pub text: Text,
-    /// Whether every verdict of the new side is a certificate.
-    pub certified: bool,
-}
-
 // The report of the inputs.
-fn report_on(alloc: Global, inputs: &Inputs) -> Result<Report, NoMemory>
+fn report_on(alloc: Global, inputs: &Inputs) -> Result<Answer, NoMemory>
     requires { All IsAsked inputs.now.book }
-    ensures { IfOk result (λ answer. IsReport inputs.now answer.text answer.certified) }
+    ensures { IfOk result (λ answer. IsReport inputs.now answer.text answer.good) }
 {
     let book = inputs.book.as_slice();
     let on_base = outcome_of(alloc, &inputs.base, book)?;
@@ -159,10 +154,9 @@ fn report_on(alloc: Global, inputs: &Inputs) -> Result<Report, NoMemory>
         outcome: &on_new,
     };
     let text = report(alloc, book, &base, &new)?;
-    let certified = are_certified(on_new.verdicts.as_slice());
-    Ok(Report {
+    Ok(Answer {
         text: Text::from_string(text),
-        certified,
+        good: are_certified(on_new.verdicts.as_slice()),
     })
 }
 
@@ -173,9 +167,9 @@ pub fn check<F: Shelf>(
     base: &str,
     new: &str,
     properties: &str,
-) -> Result<Report, Stop>
+) -> Result<Answer, Stop>
     ensures cause { HasCause (F.faults shelf.old) (F.faults shelf.new) result }
-    ensures told { (c : Content) → F.content shelf.old ≡ Some c → Checks (check_inputs c base.now new.now properties.now) result }
+    ensures told { (c : Content) → F.content shelf.old ≡ Some c → Comes IsReport (check_inputs c base.now new.now properties.now) result }
 {
     let inputs = check_inputs(alloc, shelf, base, new, properties)?;
     Ok(report_on(alloc, &inputs)?)

@@ -6,14 +6,19 @@
 //! Promises: the clauses of `run`. Not: anything of real files but the causes of its statuses.
 #![tactic(auto)]
 
+mod answer;
 mod applicable;
 mod book;
+mod bundle;
 mod check;
+mod command;
 mod folder;
+mod form;
 mod property;
 mod refusal_texts;
 mod report_text;
 mod run;
+mod stable;
 mod status;
 mod stop;
 #[cfg(test)]

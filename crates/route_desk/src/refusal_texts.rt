@@ -1,7 +1,7 @@
 //! The texts of refusals.
 
 ghost use Rattle.std.specs.Prelude.{◌≡◌, IfOk, codes, string_bytes};
-ghost use Rattle.route_desk.specs.Refusals.{at_line, bundle_text, file_name, form_text, net_text, no_path_line, of_pair, read_text, refused_line, with_number};
+ghost use Rattle.route_desk.specs.Refusals.{at_line, bundle_text, file_name, form_text, net_text, no_bgp_yet, no_path_line, of_pair, read_text, refused_line, with_number};
 
 use net_types::{
     BundleRefusal, FormRefusal, NetRefusal, NoMemory, ReadRefusal, SourceFile, prefix_text,
@@ -116,6 +116,13 @@ pub fn form_text(alloc: Global, refusal: FormRefusal) -> Result<String, NoMemory
         FormRefusal::TooMany(n) => with_number(alloc, "TooMany", n),
         FormRefusal::NoMemory => Err(NoMemory),
     }
+}
+
+/// Why a network with this router, which speaks BGP, is refused until that is analysed.
+pub fn no_bgp_yet(alloc: Global, host: &str) -> Result<String, NoMemory>
+    ensures { IfOk result (λ text. string_bytes text ≡ no_bgp_yet host.now) }
+{
+    Ok(format!(in alloc; "NoBgpYet {host}")?)
 }
 
 /// The line of a refused input: which one, and why.

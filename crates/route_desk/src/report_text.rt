@@ -18,8 +18,8 @@ pub struct Side<'a> {
     pub outcome: &'a Outcome,
 }
 
-// The host of a router, or nothing where there is no such router.
-fn host_of(net: &Net, router: u8) -> &str
+/// The host of a router, or nothing where there is no such router.
+pub fn host_of(net: &Net, router: u8) -> &str
     ensures { result.now ≡ host_of net.now router }
 {
     match net.routers().get(usize::from(router)) {

@@ -1,13 +1,17 @@
 //! The top call: what the program does with its words.
 
-ghost use Rattle.std.specs.Prelude.{◌≡◌, ◌≤◌, ◌⊎◌, ℕ, List as Seq, Some, None, codes, map, option_map};
+ghost use Rattle.std.specs.Prelude.{◌≡◌, ◌≤◌, ◌⊎◌, ℕ, List as Seq, Some, None, option_map};
 ghost use Rattle.outside.specs.Content.{Content};
 ghost use Rattle.outside.specs.Faults.{Rose};
-ghost use Rattle.route_desk.specs.Ending.{check_inputs};
-ghost use Rattle.route_desk.specs.Running.{Answers, Finishes, IsBehind, IsRefusedCommand, IsStatus, IsWritten, Paths, are_paths, command_of, is_path, paths_of, read_fault_line, status_of, usage_line};
-ghost use Rattle.net_types.specs.Order.{same_text};
+ghost use Rattle.route_desk.specs.Asked.{asked};
+ghost use Rattle.route_desk.specs.Commands.{command_of};
+ghost use Rattle.route_desk.specs.Running.{Answers, Finishes, IsBehind, IsRefusedCommand, IsStatus, IsWritten, Performs, read_fault_line, status_of, usage_line};
+ghost use Rattle.route_desk.specs.Stops.{HasCause};
 
-use crate::check::{Report, check};
+use crate::answer::Answer;
+use crate::check::check;
+use crate::command::{Command, command_of};
+use crate::stable::stable;
 use crate::status::Status;
 use crate::stop::Stop;
 use net_types::Text;
@@ -17,55 +21,6 @@ use std::alloc::Global;
 /// What is printed where the words are no command.
 const USAGE: &str =
     "usage: check BASE NEW PROPS [WORKERS] | stable BUNDLE LABELS | serve DB PORT COUNT USERS [WORKERS] | gen N [WORKERS]\n";
-
-/// The paths of a check.
-#[derive(Clone, Copy)]
-struct Command<'a> {
-    base: &'a str,
-    new: &'a str,
-    properties: &'a str,
-}
-
-fn is_path(word: &Text) -> bool
-    ensures { result ≡ is_path word.now }
-{
-    match word.as_bytes() {
-        [] => false,
-        [first, ..] => *first != b'-',
-    }
-}
-
-fn are_paths(a: &Text, b: &Text, c: &Text) -> bool
-    ensures { result ≡ are_paths a.now b.now c.now }
-{
-    is_path(a) && is_path(b) && is_path(c)
-}
-
-fn is_check(word: &Text) -> bool
-    ensures { result ≡ same_text word.now (codes "check") }
-{
-    word.as_bytes() == b"check".as_slice()
-}
-
-// The command of the words: `check` and three paths, or none.
-fn command_of(words: &[Text]) -> Option<Command<'_>>
-    ensures { option_map (λ c. paths_of c.base.now c.new.now c.properties.now) result ≡ command_of words.now }
-{
-    match words {
-        [word, a, b, c] => {
-            if is_check(word) && are_paths(a, b, c) {
-                Some(Command {
-                    base: a.as_str(),
-                    new: b.as_str(),
-                    properties: c.as_str(),
-                })
-            } else {
-                None
-            }
-        }
-        _ => None,
-    }
-}
 
 // Writes a text, and ends with this status or with that of a sink that failed.
 fn write<O: Sink>(out: &mut O, text: &[u8], status: Status) -> Status
@@ -77,31 +32,42 @@ fn write<O: Sink>(out: &mut O, text: &[u8], status: Status) -> Status
     }
 }
 
-fn status_of(certified: bool) -> Status
-    ensures { result ≡ status_of certified }
+fn status_of(good: bool) -> Status
+    ensures { result ≡ status_of good }
 {
-    if certified {
-        Status::new(0)
-    } else {
-        Status::new(1)
-    }
+    if good { Status::new(0) } else { Status::new(1) }
 }
 
-// Writes what a check came to.
+// Writes what a command came to.
 #[tactic(auto, unfolding(crate::specs::Running::read_fault_line))]
-fn finish<O: Sink>(out: &mut O, checked: Result<Report, Stop>) -> Status
-    ensures { Finishes checked (O.faults out.old) (O.faults out.new) (O.given out.old) (O.given out.new) result }
+fn finish<O: Sink>(out: &mut O, performed: Result<Answer, Stop>) -> Status
+    ensures { Finishes performed (O.faults out.old) (O.faults out.new) (O.given out.old) (O.given out.new) result }
 {
-    match checked {
-        Ok(report) => write(out, report.text.as_bytes(), status_of(report.certified)),
+    match performed {
+        Ok(answer) => write(out, answer.text.as_bytes(), status_of(answer.good)),
         Err(Stop::Refused(line)) => write(out, line.as_bytes(), Status::new(2)),
         Err(Stop::ReadFault) => write(out, b"read fault\n", Status::new(4)),
         Err(Stop::NoMemory) => Status::new(8),
     }
 }
 
+// Does what a command asks.
+fn perform<F: Shelf>(alloc: Global, shelf: &mut F, command: Command<'_>) -> Result<Answer, Stop>
+    ensures cause { HasCause (F.faults shelf.old) (F.faults shelf.new) result }
+    ensures told { (c : Content) → F.content shelf.old ≡ Some c → Performs c (asked command.entry) result }
+{
+    match command {
+        Command::Check {
+            base,
+            new,
+            properties,
+        } => check(alloc, shelf, base, new, properties),
+        Command::Stable { bundle, labels } => stable(alloc, shelf, bundle, labels),
+    }
+}
+
 /// Does what the words ask, and answers with the exit status. Words are read by hand: they are a command
-/// exactly where they are `check` and three words, none of which is empty or begins with `-`.
+/// exactly where they are `check` and three words, or `stable` and two, none of which is empty or begins with `-`.
 ///
 /// What is written, and the status, is that of `specs/Running.antt`. The status is 4 only where a call of
 /// the shelf failed, and 5 only where one of the sink did. At 8 nothing was written.
@@ -121,8 +87,8 @@ pub fn run<F: Shelf, O: Sink>(alloc: Global, words: &[Text], shelf: &mut F, out:
 {
     match command_of(words) {
         Some(command) => {
-            let checked = check(alloc, shelf, command.base, command.new, command.properties);
-            finish(out, checked)
+            let performed = perform(alloc, shelf, command);
+            finish(out, performed)
         }
         None => write(out, USAGE.as_bytes(), Status::new(3)),
     }

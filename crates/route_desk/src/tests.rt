@@ -7,7 +7,10 @@ use std::alloc::Global;
 
 mod folders;
 mod limits;
+mod memory;
+mod networks;
 mod refusals;
+mod stability;
 mod texts;
 
 use folders::{LINE, LINE_AMONG_OTHERS, LINE_REPORT, PROPERTIES};
@@ -104,8 +107,10 @@ fn line_of_three(rt: HostRuntime) {
 fn usage(rt: HostRuntime) {
     let usage =
         "usage: check BASE NEW PROPS [WORKERS] | stable BUNDLE LABELS | serve DB PORT COUNT USERS [WORKERS] | gen N [WORKERS]\n";
-    let cases: [&[&str]; 5] = [
+    let cases: [&[&str]; 7] = [
         &[],
+        &["stable", "net"],
+        &["stable", "net", "-labels"],
         &["check", "old", "new"],
         &["check", "old", "new", ""],
         &["check", "-o", "new", "props"],

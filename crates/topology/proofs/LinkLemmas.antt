@@ -2,11 +2,14 @@
 use Rattle.std.proofs.Common.{ℕ, ◌≡◌, ◌≤◌, ◌<◌, Bool, true, false, cond, ltb, List, [], ◌∷◌, length, map, refl, arith, All, AllPairs}
 use Rattle.std.specs.List.{AllByRecursion, filter}
 use Rattle.std.specs.Option.{IfSome}
+use Rattle.std.specs.Prelude.{Option, Some, None}
 use Rattle.std.proofs.lemmas.Bool.Decides.{nat_tests}
 use Rattle.std.proofs.lemmas.List.Elements.{All-from_recursion}
 use Rattle.net_types.specs.PrefixValue.{PrefixValue, IsPrefix}
 use Rattle.net_types.specs.Prefixes.{same_prefix, prefix_before}
-use Rattle.net_types.specs.NetFacts.{IsLink, IsEnd}
+use Rattle.net_types.specs.NetFacts.{IsLink, IsEnd, map_count}
+use Rattle.net_types.specs.ConfigFacts.{IsConfig}
+use Rattle.net_types.specs.declared.config.RouterConfig.{RouterConfig}
 use Rattle.net_types.specs.declared.network.Link.{Link}
 use Rattle.net_types.specs.declared.network.Router.{Router}
 use Rattle.topology.specs.declared.interfaces.Port.{Port}
@@ -14,8 +17,12 @@ use Rattle.topology.specs.declared.groups.Group.{Group}
 use Rattle.topology.specs.declared.groups.Group.TheVariants.{Alone, Joined, Shared}
 use Rattle.topology.specs.declared.groups.Wire.{Wire}
 use Rattle.topology.specs.Live.{can_link}
-use Rattle.topology.specs.Groups.{group, is_in, joined, kind_of, kind_at, subnets_of, wire_of, wires, link_of, links, end_of, IsNumbered}
-use Rattle.topology.proofs.RisingLemmas.{AllByRecursion-weaker, All-filter, All-map, All-filter_map, All-ascending, Rises-ascending, Rises-filter_map, Rises-map, AllPairs-from_rises}
+use Rattle.topology.specs.Groups.{group, is_in, joined, kind_of, kind_at, subnets_of, wire_of, wires, IsNumbered}
+use Rattle.topology.specs.declared.sessions.Side.{Side}
+use Rattle.topology.specs.Sessions.{side_at, no_side}
+use Rattle.topology.specs.Links.{end_of, joined_by, link_of, links_of}
+use Rattle.topology.proofs.SideLemmas.{IsSide, IsSide-side_at, maps_at}
+use Rattle.topology.proofs.RisingLemmas.{Rises, AllByRecursion-weaker, All-filter, All-map, All-filter_map, All-ascending, Rises-ascending, Rises-filter_map, Rises-map, AllPairs-from_rises}
 use Rattle.topology.proofs.OrderLaws.{prefix_order}
 use Rattle.topology.proofs.PortLemmas.{IsPort}
 
@@ -76,22 +83,65 @@ pub IsNumbered-wires : (count : ℕ) (ports : List Port) → count ≤ 64 → Al
 IsNumbered-wires count ports few a =
     All-from_recursion IsNumbered (wires ports) (AllByRecursion-weaker (IsWire count) IsNumbered (λ wire w. record { low = omega (arith, w.ends.lower.router); high = omega (arith, w.ends.higher.router) }) (wires ports) (IsWire-wires count ports a))
 
-IsEnd-end_of : (routers : List Router) (count : ℕ) (port : Port) → count ≤ length routers → IsPort count port → IsEnd routers (end_of port)
-IsEnd-end_of routers count port l p = record { router = omega (arith, p.router); address = p.address; least = p.least; most = p.most; «import» = tt; «export» = tt }
+IsEnd-end_of : (routers : List Router) (count : ℕ) (port : Port) (side : Side) → count ≤ length routers → IsPort count port → IsSide (map_count routers port.router) side → IsEnd routers (end_of port side)
+IsEnd-end_of routers count port side l p s = record { router = omega (arith, p.router); address = p.address; least = p.least; most = p.most; «import» = s.import; «export» = s.export }
 
-pub IsLink-links : (routers : List Router) (count : ℕ) (ports : List Port) → count ≤ length routers → AllByRecursion (IsPort count) ports → All (IsLink routers) (links ports)
-IsLink-links routers count ports l a =
-    All-from_recursion (IsLink routers) (links ports) (All-map (λ wire. link_of wire) (IsLink routers) (wires ports)
-    (AllByRecursion-weaker (IsWire count) (λ wire. IsLink routers (link_of wire)) (λ wire w. record {
-      subnet = w.subnet;
-      low = IsEnd-end_of routers count wire.low l w.ends.lower;
-      high = IsEnd-end_of routers count wire.high l w.ends.higher;
-      order = w.ends.order;
-    }) (wires ports) (IsWire-wires count ports a)))
+IsSide-no_side : (count : ℕ) → IsSide count no_side
+IsSide-no_side count = record { «import» = tt; «export» = tt }
 
-pub subnets-links : (ports : List Port) → AllPairs (λ (a b : Link). prefix_before a.subnet b.subnet ≡ true) (links ports)
-subnets-links ports =
-    AllPairs-from_rises (λ a b. prefix_before a.subnet b.subnet) (links ports)
-    (Rises-map (λ wire. link_of wire) (λ a b. prefix_before a.subnet b.subnet) (wires ports)
+IsLink-joined_by : (routers : List Router) (count : ℕ) (wire : Wire) (low high : Option Side) → count ≤ length routers → IsWire count wire → IfSome low (IsSide (map_count routers wire.low.router)) → IfSome high (IsSide (map_count routers wire.high.router)) → IsLink routers (joined_by wire low high)
+IsLink-joined_by routers count wire None high l w p q = record {
+  subnet = w.subnet;
+  low = IsEnd-end_of routers count wire.low no_side l w.ends.lower (IsSide-no_side (map_count routers wire.low.router));
+  high = IsEnd-end_of routers count wire.high no_side l w.ends.higher (IsSide-no_side (map_count routers wire.high.router));
+  order = w.ends.order;
+}
+IsLink-joined_by routers count wire (Some low) None l w p q = record {
+  subnet = w.subnet;
+  low = IsEnd-end_of routers count wire.low no_side l w.ends.lower (IsSide-no_side (map_count routers wire.low.router));
+  high = IsEnd-end_of routers count wire.high no_side l w.ends.higher (IsSide-no_side (map_count routers wire.high.router));
+  order = w.ends.order;
+}
+IsLink-joined_by routers count wire (Some low) (Some high) l w p q = record {
+  subnet = w.subnet;
+  low = IsEnd-end_of routers count wire.low low l w.ends.lower p;
+  high = IsEnd-end_of routers count wire.high high l w.ends.higher q;
+  order = w.ends.order;
+}
+
+-- the routers have as many maps as the configurations
+abbrev pub HaveMapsOf : List Router → List RouterConfig → Type 0
+HaveMapsOf routers configs = (k : ℕ) → map_count routers k ≡ maps_at configs k
+
+IsLink-link_of : (routers : List Router) (configs : List RouterConfig) (count : ℕ) (wire : Wire) → count ≤ length routers → HaveMapsOf routers configs → AllByRecursion IsConfig configs → IsWire count wire → IsLink routers (link_of configs wire)
+IsLink-link_of routers configs count wire l maps a w =
+    IsLink-joined_by routers count wire (side_at configs wire.low wire.high) (side_at configs wire.high wire.low) l w
+    (rw (maps wire.low.router) (IsSide-side_at configs wire.low wire.high a))
+    (rw (maps wire.high.router) (IsSide-side_at configs wire.high wire.low a))
+
+pub IsLink-links_of : (routers : List Router) (configs : List RouterConfig) (count : ℕ) (ports : List Port) → count ≤ length routers → HaveMapsOf routers configs → AllByRecursion IsConfig configs → AllByRecursion (IsPort count) ports → All (IsLink routers) (links_of configs (wires ports))
+IsLink-links_of routers configs count ports l maps c a =
+    All-from_recursion (IsLink routers) (links_of configs (wires ports)) (All-map (λ wire. link_of configs wire) (IsLink routers) (wires ports)
+    (AllByRecursion-weaker (IsWire count) (λ wire. IsLink routers (link_of configs wire)) (λ wire w. IsLink-link_of routers configs count wire l maps c w) (wires ports) (IsWire-wires count ports a)))
+
+-- a link has the subnet of its two interfaces
+pub subnet-joined_by : (wire : Wire) (low high : Option Side) → (joined_by wire low high).subnet ≡ wire.subnet
+subnet-joined_by wire None high = refl
+subnet-joined_by wire (Some low) None = refl
+subnet-joined_by wire (Some low) (Some high) = refl
+
+pub subnet-link_of : (configs : List RouterConfig) (wire : Wire) → (link_of configs wire).subnet ≡ wire.subnet
+subnet-link_of configs wire = subnet-joined_by wire (side_at configs wire.low wire.high) (side_at configs wire.high wire.low)
+
+rises-links_of : (configs : List RouterConfig) (wires : List Wire) → Rises (λ (a b : Wire). prefix_before a.subnet b.subnet) wires → Rises (λ (a b : Wire). prefix_before (link_of configs a).subnet (link_of configs b).subnet) wires
+rises-links_of configs [] r = tt
+rises-links_of configs (wire ∷ wires) r =
+    (AllByRecursion-weaker (λ (b : Wire). prefix_before wire.subnet b.subnet ≡ true) (λ (b : Wire). prefix_before (link_of configs wire).subnet (link_of configs b).subnet ≡ true) (λ b h. rw (subnet-link_of configs wire, subnet-link_of configs b) h) wires r.0, rises-links_of configs wires r.1)
+
+pub subnets-links_of : (configs : List RouterConfig) (ports : List Port) → AllPairs (λ (a b : Link). prefix_before a.subnet b.subnet ≡ true) (links_of configs (wires ports))
+subnets-links_of configs ports =
+    AllPairs-from_rises (λ a b. prefix_before a.subnet b.subnet) (links_of configs (wires ports))
+    (Rises-map (λ wire. link_of configs wire) (λ a b. prefix_before a.subnet b.subnet) (wires ports)
+    (rises-links_of configs (wires ports)
     (Rises-filter_map (λ subnet. wire_of subnet (kind_at ports subnet)) (λ wire. wire.subnet) prefix_before (λ subnet. subnet-wire_of subnet (kind_at ports subnet)) (subnets_of ports)
-    (Rises-ascending same_prefix prefix_before prefix_order (map (λ port. port.subnet) (filter (λ port. can_link port.loopback port.subnet) ports)))))
+    (Rises-ascending same_prefix prefix_before prefix_order (map (λ port. port.subnet) (filter (λ port. can_link port.loopback port.subnet) ports))))))

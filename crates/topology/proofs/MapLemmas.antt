@@ -1,6 +1,6 @@
 -- Looking up and putting an item in a list that is seen through a function, as references are.
-use Rattle.std.proofs.Common.{ℕ, ◌≡◌, ◌+◌, ◌||◌, Bool, true, false, not, cond, List, [], ◌∷◌, map, refl, ap}
-use Rattle.std.proofs.lemmas.List.{map-append, take-map, drop-map}
+use Rattle.std.proofs.Common.{ℕ, zero, suc, ◌≡◌, ◌<◌, ◌+◌, ◌||◌, Bool, true, false, not, cond, List, [], ◌∷◌, map, length, get_or, All, refl, ap, sym, subst, ◌∙◌}
+use Rattle.std.proofs.lemmas.List.{map-append, take-map, drop-map, length-map}
 use Rattle.std.specs.List.{list_any, position_or_len, insert}
 use Rattle.topology.specs.Ascending.{put}
 
@@ -20,3 +20,13 @@ pub put-new : {A B : Type 0} (f : A → B) (same before : B → B → Bool) (xs 
 put-new f same before xs x h = rw (list_any-map f (λ y. same y (f x)) xs, h, position_or_len-map f (λ y. before (f x) y) xs) (insert-map f xs (position_or_len (λ y. before (f x) (f y)) xs) x) where
   insert-map : {A B : Type 0} (f : A → B) (xs : List A) (i : ℕ) (x : A) → insert (map f xs) i (f x) ≡ map f (insert xs i x)
   insert-map f xs i x = simp (map-append, take-map, drop-map)
+
+-- what is true of all that is seen is true of one that is seen
+pub All-seen : {A B : Type 0} (f : A → B) (P : B → Type 0) (xs : List A) (k : ℕ) (x : A) → All P (map f xs) → k < length xs → x ≡ get_or xs k x → P (f x)
+All-seen f P xs k x a h e =
+    let at : get_or (map f xs) k (f x) ≡ f x = get_or-map f xs k x ∙ ap f (sym e) in
+    subst P at (a k (f x) (rw (length-map xs f) h)) where
+      get_or-map : {A B : Type 0} (f : A → B) (xs : List A) (k : ℕ) (x : A) → get_or (map f xs) k (f x) ≡ f (get_or xs k x)
+      get_or-map f [] k x = refl
+      get_or-map f (y ∷ ys) zero x = refl
+      get_or-map f (y ∷ ys) (suc k) x = get_or-map f ys k x

@@ -1,7 +1,7 @@
 -- The network of configurations is what `IsNetworkOf` says.
-use Rattle.std.proofs.Common.{ℕ, zero, suc, ◌≡◌, ◌+◌, ◌≤◌, ◌<◌, ◌==◌, ◌&&◌, ◌⊎◌, inl, inr, ⊎_elim, min, Bool, true, false, cond, ltb, List, [], ◌∷◌, map, fold, refl, ap, sym, subst, ◌∙◌, arith, add-zero, zero-add, Contains, All, Option, Some, None}
-use Rattle.std.specs.List.{list_any, position_or_len, insert, filter, slice_get, AllByRecursion}
-use Rattle.std.specs.Option.{IfSome}
+use Rattle.std.proofs.Common.{ℕ, ◌≡◌, ◌+◌, ◌≤◌, ◌<◌, ◌==◌, ◌&&◌, ◌++◌, ◌⊎◌, ◌↔◌, nat_eq, nat_lt, inl, inr, ⊎_elim, min, Bool, true, false, cond, ltb, List, [], ◌∷◌, map, fold, refl, ap, sym, subst, ◌∙◌, arith, zero-add, Contains, All, Option, Some, None}
+use Rattle.std.specs.List.{list_any, position_or_len, insert, filter, slice_get}
+use Rattle.std.specs.Option.{IfSome, option_map}
 use Rattle.std.specs.Prelude.{Result, Ok, Err}
 use Rattle.std.specs.Result.{IfOk}
 use Rattle.std.proofs.lemmas.Bool.{false≢true}
@@ -19,17 +19,25 @@ use Rattle.topology.specs.declared.groups.Group.TheVariants.{Joined, Shared}
 use Rattle.topology.specs.declared.groups.Wire.{Wire}
 use Rattle.topology.specs.Ascending.{put, ascending}
 use Rattle.topology.specs.Live.{in_order, ports, can_link}
-use Rattle.topology.specs.Groups.{group, is_in, joined, kind_of, kind_at, subnets_of, wire_of, wires, link_of, links}
-use Rattle.topology.specs.Owning.{stubs, stub_cost, lesser, least_cost, owned_of, prefixes_of, owned_by, routers_from}
+use Rattle.topology.specs.Groups.{group, is_in, joined, kind_of, kind_at, subnets_of, wire_of, wires}
+use Rattle.topology.specs.Owning.{stubs, stub_cost, lesser, least_cost, has_stub, owned_of, prefixes_of, owned_by, networks_of}
+use Rattle.topology.specs.Communities.{communities, named_values}
+use Rattle.topology.specs.Links.{link_of, links_of}
+use Rattle.topology.specs.Routers.{router_of, routers_from}
+use Rattle.net_types.specs.NetFacts.{no_export, no_advertise}
 use Rattle.net_types.specs.declared.refusals.NetRefusal.{NetRefusal}
 use Rattle.topology.specs.Network.{Answers, unless, net_of}
-use Rattle.topology.specs.Meaning.{AreLinked, IsLinkOf, RunsOspfAt, IsLeastCost, AreOwned, IsNetworkOf}
-use Rattle.topology.proofs.MapLemmas.{put-there, put-new}
-use Rattle.topology.proofs.RisingLemmas.{All-filter_map, All-map}
-use Rattle.topology.proofs.OrderLaws.{prefix_order, text_order}
-use Rattle.topology.proofs.LinkLemmas.{subnets-links}
+use Rattle.topology.specs.Meaning.{AreLinked, IsLinkOf, RunsOspfAt, IsLeastCost, AreOwned, IsRouterOf, IsNetworkOf, SessionsHaveSystems}
+use Rattle.topology.proofs.MapLemmas.{list_any-map, put-there, put-new}
+use Rattle.topology.proofs.RisingLemmas.{AllByRecursion-weaker, All-filter_map, All-map, every}
+use Rattle.topology.proofs.OrderLaws.{prefix_order, text_order, number_order, number-equal}
+use Rattle.topology.proofs.LinkLemmas.{subnets-links_of, subnet-link_of}
+use Rattle.topology.proofs.RouterLemmas.{router-at}
+use Rattle.topology.proofs.SessionLemmas.{sessions-links_of, sides-links_of, SessionsHaveSystems-net_of}
+use Rattle.topology.proofs.SetLemmas.{IsSetOf-set_of}
+use Rattle.topology.proofs.IdleLemmas.{AreNotices-notices}
 use Rattle.topology.proofs.TwinLemmas.{same_text-equal}
-use Rattle.topology.proofs.MemberLemmas.{In, Contains-from_In, In-from_Contains, In-map, In-filter, from-filter, In-filter_map, In-ascending, IsAscending-ascending}
+use Rattle.topology.proofs.MemberLemmas.{In, Contains-from_In, In-from_Contains, In-map, In-filter, from-filter, In-filter_map, In-ascending, In-there, any-from, from-map, IsAscending-ascending}
 
 pub same_prefix-equal : (p q : PrefixValue) → same_prefix p q ≡ true → p ≡ q
 same_prefix-equal p q h =
@@ -58,28 +66,35 @@ map-fold f same before (x ∷ xs) done = map-fold f same before xs (put (λ a b.
 hosts-in_order : (configs : List RouterConfig) → map (λ (config : RouterConfig). config.host) (in_order configs) ≡ ascending same_text text_before (map (λ (config : RouterConfig). config.host) configs)
 hosts-in_order configs = map-fold (λ (config : RouterConfig). config.host) same_text text_before configs []
 
-hosts-routers_from : (all : List Port) (k : ℕ) (configs : List RouterConfig) → map (λ (router : Router). router.host) (routers_from all k configs) ≡ map (λ (config : RouterConfig). config.host) configs
-hosts-routers_from all k [] = refl
-hosts-routers_from all k (config ∷ configs) = ap (λ hs. config.host ∷ hs) (hosts-routers_from all (k + 1) configs)
+hosts-routers_from : (all : List Port) (named : List ℕ) (k : ℕ) (configs : List RouterConfig) → map (λ (router : Router). router.host) (routers_from all named k configs) ≡ map (λ (config : RouterConfig). config.host) configs
+hosts-routers_from all named k [] = refl
+hosts-routers_from all named k (config ∷ configs) = ap (λ hs. config.host ∷ hs) (hosts-routers_from all named (k + 1) configs)
 
 -- links
-link-at : (all : List Port) (subnet : PrefixValue) (found : List Port) → group all subnet ≡ found → IfSome (wire_of subnet (kind_of found)) (λ wire. IsLinkOf all (link_of wire))
-link-at all subnet [] e = tt
-link-at all subnet (a ∷ []) e = tt
-link-at all subnet (a ∷ b ∷ []) e = go (ltb a.router b.router) refl (ltb b.router a.router) refl where
-  go : (s : Bool) → ltb a.router b.router ≡ s → (t : Bool) → ltb b.router a.router ≡ t → IfSome (wire_of subnet (cond s (Joined a b) (cond t (Joined b a) Shared))) (λ wire. IsLinkOf all (link_of wire))
-  go true s t q = record { low = a; high = b; linked = record { pair = inl e; order = grind (arith, nat_tests) }; is = refl }
-  go false s true q = record { low = b; high = a; linked = record { pair = inr e; order = grind (arith, nat_tests) }; is = refl }
+link-of : (configs : List RouterConfig) (all : List Port) (subnet : PrefixValue) (low high : Port) → AreLinked all subnet low high → IsLinkOf configs all (link_of configs (record { subnet = subnet; low = low; high = high }))
+link-of configs all subnet low high h =
+    let wire : Wire = record { subnet = subnet; low = low; high = high } in
+    let e : (link_of configs wire).subnet ≡ subnet = subnet-link_of configs wire in
+    record {
+      low = low;
+      high = high;
+      linked = (let P : PrefixValue → Type 0 = λ s. AreLinked all s low high in subst P (sym e) h);
+      is = ap (λ s. link_of configs (record { subnet = s; low = low; high = high })) (sym e);
+    }
+
+link-at : (configs : List RouterConfig) (all : List Port) (subnet : PrefixValue) (found : List Port) → group all subnet ≡ found → IfSome (wire_of subnet (kind_of found)) (λ wire. IsLinkOf configs all (link_of configs wire))
+link-at configs all subnet [] e = tt
+link-at configs all subnet (a ∷ []) e = tt
+link-at configs all subnet (a ∷ b ∷ []) e = go (ltb a.router b.router) refl (ltb b.router a.router) refl where
+  go : (s : Bool) → ltb a.router b.router ≡ s → (t : Bool) → ltb b.router a.router ≡ t → IfSome (wire_of subnet (cond s (Joined a b) (cond t (Joined b a) Shared))) (λ wire. IsLinkOf configs all (link_of configs wire))
+  go true s t q = link-of configs all subnet a b (record { pair = inl e; order = grind (arith, nat_tests) })
+  go false s true q = link-of configs all subnet b a (record { pair = inr e; order = grind (arith, nat_tests) })
   go false s false q = tt
-link-at all subnet (a ∷ b ∷ c ∷ more) e = tt
+link-at configs all subnet (a ∷ b ∷ c ∷ more) e = tt
 
-every : {A : Type 0} (xs : List A) → AllByRecursion (λ _. Unit {0}) xs
-every [] = tt
-every (x ∷ xs) = (tt, every xs)
-
-each-link : (all : List Port) → All (IsLinkOf all) (links all)
-each-link all = All-from_recursion (IsLinkOf all) (links all) (All-map (λ wire. link_of wire) (IsLinkOf all) (wires all)
-    (All-filter_map (λ subnet. wire_of subnet (kind_at all subnet)) (λ _. Unit {0}) (λ wire. IsLinkOf all (link_of wire)) (λ subnet _. link-at all subnet (group all subnet) refl) (subnets_of all) (every (subnets_of all))))
+each-link : (configs : List RouterConfig) (all : List Port) → All (IsLinkOf configs all) (links_of configs (wires all))
+each-link configs all = All-from_recursion (IsLinkOf configs all) (links_of configs (wires all)) (All-map (λ wire. link_of configs wire) (IsLinkOf configs all) (wires all)
+    (All-filter_map (λ subnet. wire_of subnet (kind_at all subnet)) (λ _. Unit {0}) (λ wire. IsLinkOf configs all (link_of configs wire)) (λ subnet _. link-at configs all subnet (group all subnet) refl) (subnets_of all) (every (subnets_of all))))
 
 joined-low : (a b : Port) → a.router < b.router → joined a b ≡ Joined a b
 joined-low a b l = let t : ltb a.router b.router ≡ true = grind (arith, nat_tests) in rw t refl
@@ -109,10 +124,10 @@ subnet-in all subnet port i =
 subnet-linked : (all : List Port) (subnet : PrefixValue) (low high : Port) → AreLinked all subnet low high → In subnet (subnets_of all)
 subnet-linked all subnet low high h = subnet-in all subnet low (⊎_elim (λ e. rw e (inl refl)) (λ e. rw e (inr (inl refl))) h.pair)
 
-complete-links : (all : List Port) (subnet : PrefixValue) (low high : Port) → AreLinked all subnet low high → Contains (links all) (link_of (record { subnet = subnet; low = low; high = high }))
-complete-links all subnet low high h =
+complete-links : (configs : List RouterConfig) (all : List Port) (subnet : PrefixValue) (low high : Port) → AreLinked all subnet low high → Contains (links_of configs (wires all)) (link_of configs (record { subnet = subnet; low = low; high = high }))
+complete-links configs all subnet low high h =
     let wire : Wire = record { subnet = subnet; low = low; high = high } in
-    Contains-from_In (link_of wire) (links all) (In-map (λ wire. link_of wire) wire (wires all)
+    Contains-from_In (link_of configs wire) (links_of configs (wires all)) (In-map (λ wire. link_of configs wire) wire (wires all)
     (In-filter_map (λ subnet. wire_of subnet (kind_at all subnet)) subnet wire (subnets_of all) (subnet-linked all subnet low high h) (ap (λ k. wire_of subnet k) (kind-linked all subnet low high h))))
 
 -- costs
@@ -152,10 +167,6 @@ least-from None [] = (refl, λ n i. i)
 least-from (Some c) [] = (inl refl, λ n q. ⊎_elim (λ e. let f = same_some c n e in omega arith) (λ i. absurd i) q)
 least-from start (n ∷ ns) = least-step start n ns (fold (λ least n. lesser least n) (lesser start n) ns) (least-from (lesser start n) ns)
 
-pub from-map : {A B : Type 0} (f : A → B) (y : B) (xs : List A) → In y (map f xs) → (x : A) × In x xs × (f x ≡ y)
-from-map f y [] h = absurd h
-from-map f y (x ∷ xs) h = ⊎_elim (λ e. (x, inl refl, e)) (λ i. let w = from-map f y xs i in (w.0, inr w.1, w.2)) h
-
 -- the test for a stub of the prefix that runs OSPF
 abbrev runs_at : PrefixValue → Port → Bool
 runs_at prefix port = port.ospf && same_prefix port.subnet prefix
@@ -182,45 +193,75 @@ IsLeastCost-least_cost : (stubs : List Port) (prefix : PrefixValue) → IsLeastC
 IsLeastCost-least_cost stubs prefix = least_cost-from stubs prefix (least_cost stubs prefix) (least-from None (map (λ port. stub_cost port) (filter (λ port. runs_at prefix port) stubs)))
 
 -- what a router owns
-prefixes-map : (of : List Port) (prefixes : List PrefixValue) → map (λ (entry : Owned). entry.prefix) (map (λ prefix. owned_of of prefix) prefixes) ≡ prefixes
-prefixes-map of [] = refl
-prefixes-map of (p ∷ ps) = ap (λ qs. p ∷ qs) (prefixes-map of ps)
+prefixes-map : (of : List Port) (networks prefixes : List PrefixValue) → map (λ (entry : Owned). entry.prefix) (map (λ prefix. owned_of of networks prefix) prefixes) ≡ prefixes
+prefixes-map of networks [] = refl
+prefixes-map of networks (p ∷ ps) = ap (λ qs. p ∷ qs) (prefixes-map of networks ps)
 
-each-owned : (of : List Port) (prefixes : List PrefixValue) → AllByRecursion (λ prefix. IsLeastCost of prefix (least_cost of prefix)) prefixes
-each-owned of [] = tt
-each-owned of (p ∷ ps) = (IsLeastCost-least_cost of p, each-owned of ps)
+-- the prefix is among these, by the test
+among : (prefixes : List PrefixValue) (prefix : PrefixValue) → (list_any (λ q. same_prefix q prefix) prefixes ≡ true) ↔ Contains prefixes prefix
+among prefixes prefix = (
+  (λ h. Contains-from_In prefix prefixes (In-there same_prefix same_prefix-equal prefix prefixes h)),
+  (λ h. any-from (λ q. same_prefix q prefix) prefix prefixes (In-from_Contains prefix prefixes h) (same_prefix-itself prefix)),
+)
 
-each-kind : (of : List Port) (prefixes : List PrefixValue) → AllByRecursion (λ prefix. ((owned_of of prefix).network ≡ false) × ((owned_of of prefix).stub ≡ true)) prefixes
-each-kind of [] = tt
-each-kind of (p ∷ ps) = ((refl, refl), each-kind of ps)
+among-stubs : (of : List Port) (prefix : PrefixValue) → (has_stub of prefix ≡ true) ↔ Contains (map (λ port. port.subnet) of) prefix
+among-stubs of prefix =
+    let e = list_any-map (λ port. port.subnet) (λ q. same_prefix q prefix) of in
+    let law = among (map (λ port. port.subnet) of) prefix in
+    ((λ h. law.0 (e ∙ h)), (λ h. sym e ∙ law.1 h))
 
-AreOwned-owned_by : (of : List Port) → AreOwned of (owned_by of)
-AreOwned-owned_by of = record {
-  prefixes = rw (prefixes-map of (prefixes_of of)) (IsAscending-ascending same_prefix prefix_before prefix_order same_prefix-equal (map (λ port. port.subnet) of));
-  costs = All-from_recursion (λ (entry : Owned). IsLeastCost of entry.prefix entry.ospf_cost) (owned_by of) (All-map (λ prefix. owned_of of prefix) (λ (entry : Owned). IsLeastCost of entry.prefix entry.ospf_cost) (prefixes_of of) (each-owned of (prefixes_of of)));
-  kinds = All-from_recursion (λ (entry : Owned). (entry.network ≡ false) × (entry.stub ≡ true)) (owned_by of) (All-map (λ prefix. owned_of of prefix) (λ (entry : Owned). (entry.network ≡ false) × (entry.stub ≡ true)) (prefixes_of of) (each-kind of (prefixes_of of)));
+all-owned : (of : List Port) (networks : List PrefixValue) (P : Owned → Type 0) → ((prefix : PrefixValue) → P (owned_of of networks prefix)) → All P (owned_by of networks)
+all-owned of networks P h =
+    All-from_recursion P (owned_by of networks) (All-map (λ prefix. owned_of of networks prefix) P (prefixes_of of networks)
+    (AllByRecursion-weaker (λ _. Unit {0}) (λ prefix. P (owned_of of networks prefix)) (λ prefix _. h prefix) (prefixes_of of networks) (every (prefixes_of of networks))))
+
+AreOwned-owned_by : (of : List Port) (networks : List PrefixValue) → AreOwned of networks (owned_by of networks)
+AreOwned-owned_by of networks = record {
+  prefixes = rw (prefixes-map of networks (prefixes_of of networks)) (IsAscending-ascending same_prefix prefix_before prefix_order same_prefix-equal (map (λ port. port.subnet) of ++ networks));
+  costs = all-owned of networks (λ (entry : Owned). IsLeastCost of entry.prefix entry.ospf_cost) (λ prefix. IsLeastCost-least_cost of prefix);
+  from_networks = all-owned of networks (λ (entry : Owned). (entry.network ≡ true) ↔ Contains networks entry.prefix) (λ prefix. among networks prefix);
+  from_stubs = all-owned of networks (λ (entry : Owned). (entry.stub ≡ true) ↔ Contains (map (λ port. port.subnet) of) entry.prefix) (λ prefix. among-stubs of prefix);
 }
 
-owned-at : (all : List Port) (m k : ℕ) (configs : List RouterConfig) (router : Router) → slice_get (routers_from all m configs) k ≡ Some router → router.owned ≡ owned_by (stubs all (m + k))
-owned-at all m k [] router e = absurd (none router e) where
+IsRouterOf-at : (configs : List RouterConfig) (k : ℕ) (router : Router) → slice_get (routers_from (ports configs) (communities configs) 0 (in_order configs)) k ≡ Some router → IsRouterOf configs k router
+IsRouterOf-at configs k router e = go (slice_get (in_order configs) k) refl (sym (router-at (ports configs) (communities configs) 0 (in_order configs) k) ∙ e) where
   none : (r : Router) → None ≡ Some r → ⊥
   none r e = cc
-owned-at all m zero (config ∷ configs) router e = rw add-zero (sym (ap (λ (r : Router). r.owned) (same e))) where
-  same : {a b : Router} → Some a ≡ Some b → a ≡ b
-  same e = cc
-owned-at all m (suc k) (config ∷ configs) router e = let n : m + suc k ≡ m + 1 + k = omega arith in rw n (owned-at all (m + 1) k configs router e)
+
+  same : (a b : Router) → Some a ≡ Some b → a ≡ b
+  same a b e = cc
+
+  owned : (config : RouterConfig) (n : ℕ) → n ≡ k → AreOwned (stubs (ports configs) k) (networks_of config) (owned_by (stubs (ports configs) n) (networks_of config))
+  owned config n f = rw f (AreOwned-owned_by (stubs (ports configs) k) (networks_of config))
+
+  go : (o : Option RouterConfig) → slice_get (in_order configs) k ≡ o → option_map (λ config. router_of (ports configs) (communities configs) (0 + k) config) o ≡ Some router → IsRouterOf configs k router
+  go None f g = absurd (none router g)
+  go (Some config) f g =
+      let is = same (router_of (ports configs) (communities configs) (0 + k) config) router g in
+      record {
+        config = config;
+        config_at = f;
+        host = sym (ap (λ (r : Router). r.host) is);
+        asn = sym (ap (λ (r : Router). r.asn) is);
+        owned = (let P : Router → Type 0 = λ r. AreOwned (stubs (ports configs) k) (networks_of config) r.owned in subst P is (owned config (0 + k) (zero-add k)));
+      }
 
 pub IsNetworkOf-net_of : (configs : List RouterConfig) → IsNetworkOf configs (net_of configs)
 IsNetworkOf-net_of configs = record {
-  hosts = rw (hosts-routers_from (ports configs) 0 (in_order configs), hosts-in_order configs) (IsAscending-ascending same_text text_before text_order same_text-equal (map (λ (config : RouterConfig). config.host) configs));
-  links = record { rise = subnets-links (ports configs); each = each-link (ports configs); complete = complete-links (ports configs) };
-  owned = λ k router e. let o : router.owned ≡ owned_by (stubs (ports configs) k) = owned-at (ports configs) 0 k (in_order configs) router e ∙ ap (λ n. owned_by (stubs (ports configs) n)) (zero-add k) in rw o (AreOwned-owned_by (stubs (ports configs) k));
+  hosts = rw (hosts-routers_from (ports configs) (communities configs) 0 (in_order configs), hosts-in_order configs) (IsAscending-ascending same_text text_before text_order same_text-equal (map (λ (config : RouterConfig). config.host) configs));
+  routers = IsRouterOf-at configs;
+  links = record { rise = subnets-links_of (in_order configs) (ports configs); each = each-link (in_order configs) (ports configs); complete = complete-links (in_order configs) (ports configs) };
+  sessions = sessions-links_of (in_order configs) (wires (ports configs));
+  communities = IsAscending-ascending nat_eq nat_lt number_order number-equal (no_export ∷ no_advertise ∷ named_values configs);
+  sides = sides-links_of (in_order configs) (wires (ports configs));
+  sets = IsSetOf-set_of (communities configs);
+  notices = AreNotices-notices (in_order configs) (links_of (in_order configs) (wires (ports configs)));
 }
 
--- the same of an answer, whatever refusals were tried
-pub IsNetworkOf-answer : (configs : List RouterConfig) (tried : List (Option NetRefusal)) (answer : Result NetValue NetRefusal) → Answers (unless tried (net_of configs)) answer → IfOk answer (λ net. IsNetworkOf configs net)
-IsNetworkOf-answer configs tried (Err refusal) e = tt
-IsNetworkOf-answer configs tried (Ok net) e = let P : NetValue → Type 0 = λ n. IsNetworkOf configs n in subst P (value tried e) (IsNetworkOf-net_of configs) where
+-- what is true of the network is true of an answer, whatever refusals were tried
+of-answer : (configs : List RouterConfig) (P : NetValue → Type 0) (tried : List (Option NetRefusal)) (answer : Result NetValue NetRefusal) → P (net_of configs) → Answers (unless tried (net_of configs)) answer → IfOk answer P
+of-answer configs P tried (Err refusal) h e = tt
+of-answer configs P tried (Ok net) h e = subst P (value tried e) h where
   same : (m n : NetValue) → (let r : Result NetValue NetRefusal = Ok m in r) ≡ Ok n → m ≡ n
   same m n e = cc
 
@@ -228,3 +269,9 @@ IsNetworkOf-answer configs tried (Ok net) e = let P : NetValue → Type 0 = λ n
   value [] e = same (net_of configs) net e
   value (Some r ∷ rs) e = absurd (false≢true cc)
   value (None ∷ rs) e = value rs e
+
+pub IsNetworkOf-answer : (configs : List RouterConfig) (tried : List (Option NetRefusal)) (answer : Result NetValue NetRefusal) → Answers (unless tried (net_of configs)) answer → IfOk answer (λ net. IsNetworkOf configs net)
+IsNetworkOf-answer configs tried answer e = of-answer configs (λ net. IsNetworkOf configs net) tried answer (IsNetworkOf-net_of configs) e
+
+pub SessionsHaveSystems-answer : (configs : List RouterConfig) (tried : List (Option NetRefusal)) (answer : Result NetValue NetRefusal) → Answers (unless tried (net_of configs)) answer → IfOk answer (λ net. SessionsHaveSystems net)
+SessionsHaveSystems-answer configs tried answer e = of-answer configs (λ net. SessionsHaveSystems net) tried answer (SessionsHaveSystems-net_of configs) e

@@ -1,6 +1,6 @@
 -- What is in a list, and in the lists that are made of it.
-use Rattle.std.proofs.Common.{ℕ, zero, suc, ◌≡◌, ◌<◌, ◌||◌, ◌⊎◌, inl, inr, ⊎_elim, Bool, true, false, cond, List, [], ◌∷◌, map, fold, length, get_or, refl, ap, sym, subst, ◌∙◌, arith, Contains, All, Option, Some, None}
-use Rattle.std.specs.List.{list_any, position_or_len, insert, filter, filter_map, cons_option, AllByRecursion}
+use Rattle.std.proofs.Common.{ℕ, zero, suc, ◌≡◌, ◌<◌, ◌||◌, ◌++◌, ◌⊎◌, inl, inr, ⊎_elim, Bool, true, false, cond, List, [], ◌∷◌, map, fold, length, get_or, refl, ap, sym, subst, ◌∙◌, arith, Contains, All, Option, Some, None}
+use Rattle.std.specs.List.{list_any, position_or_len, insert, filter, filter_map, find, cons_option, AllByRecursion}
 use Rattle.std.proofs.lemmas.Bool.{false≢true}
 use Rattle.std.proofs.lemmas.List.Elements.{All-from_recursion, recursion_from_All, All-contains_itself}
 use Rattle.topology.specs.Ascending.{is_there, put, ascending}
@@ -54,8 +54,55 @@ In-filter_map {B = B} f x y (z ∷ zs) h e = go (f z) refl (λ i. In-filter_map 
   go None q later h = ⊎_elim (λ g. other y (sym q ∙ ap f g ∙ e)) (λ i. later i) h
   go (Some w) q later h = ⊎_elim (λ g. inl (same w y (sym q ∙ ap f g ∙ e))) (λ i. inr (later i)) h
 
+pub from-map : {A B : Type 0} (f : A → B) (y : B) (xs : List A) → In y (map f xs) → (x : A) × In x xs × (f x ≡ y)
+from-map f y [] h = absurd h
+from-map f y (x ∷ xs) h = ⊎_elim (λ e. (x, inl refl, e)) (λ i. let w = from-map f y xs i in (w.0, inr w.1, w.2)) h
+
+pub In-append-left : {A : Type 0} (y : A) (xs ys : List A) → In y xs → In y (xs ++ ys)
+In-append-left y [] ys h = absurd h
+In-append-left y (x ∷ xs) ys h = ⊎_elim (λ e. inl e) (λ i. inr (In-append-left y xs ys i)) h
+
+pub In-append-right : {A : Type 0} (y : A) (xs ys : List A) → In y ys → In y (xs ++ ys)
+In-append-right y [] ys h = h
+In-append-right y (x ∷ xs) ys h = inr (In-append-right y xs ys h)
+
+-- some item passes
+pub from-any : {A : Type 0} (p : A → Bool) (xs : List A) → list_any p xs ≡ true → (x : A) × In x xs × (p x ≡ true)
+from-any p [] h = absurd (false≢true h)
+from-any {A = A} p (x ∷ xs) h = go (p x) refl h (λ t. from-any p xs t) where
+  go : (b : Bool) → p x ≡ b → (b || list_any p xs) ≡ true → (list_any p xs ≡ true → (y : A) × In y xs × (p y ≡ true)) → (y : A) × In y (x ∷ xs) × (p y ≡ true)
+  go true e t later = (x, inl refl, e)
+  go false e t later = let w = later t in (w.0, inr w.1, w.2)
+
+pub any-from : {A : Type 0} (p : A → Bool) (x : A) (xs : List A) → In x xs → p x ≡ true → list_any p xs ≡ true
+any-from p x [] h t = absurd h
+any-from p x (y ∷ ys) h t = go (p y) refl (λ i. any-from p x ys i t) where
+  go : (b : Bool) → p y ≡ b → (In x ys → list_any p ys ≡ true) → (b || list_any p ys) ≡ true
+  go true e later = refl
+  go false e later = ⊎_elim (λ f. absurd (false≢true (sym e ∙ ap p f ∙ t))) (λ i. later i) h
+
+-- what is found is there and passes, and what is there and passes is found
+pub from-find : {A : Type 0} (p : A → Bool) (x : A) (xs : List A) → find p xs ≡ Some x → In x xs × (p x ≡ true)
+from-find p x [] h = absurd (false≢true (none x h)) where
+  none : {A : Type 0} (x : A) → None ≡ Some x → false ≡ true
+  none x e = cc
+from-find {A = A} p x (y ∷ ys) h = go (p y) refl h (λ t. from-find p x ys t) where
+  same : (a b : A) → Some a ≡ Some b → a ≡ b
+  same a b e = cc
+
+  go : (b : Bool) → p y ≡ b → cond b (Some y) (find p ys) ≡ Some x → (find p ys ≡ Some x → In x ys × (p x ≡ true)) → In x (y ∷ ys) × (p x ≡ true)
+  go true e f later = let q = same y x f in (inl q, ap p (sym q) ∙ e)
+  go false e f later = (inr (later f).0, (later f).1)
+
+pub find-some : {A : Type 0} (p : A → Bool) (x : A) (xs : List A) → In x xs → p x ≡ true → (y : A) × (find p xs ≡ Some y)
+find-some p x [] h t = absurd h
+find-some {A = A} p x (y ∷ ys) h t = go (p y) refl (λ i. find-some p x ys i t) where
+  go : (b : Bool) → p y ≡ b → (In x ys → (z : A) × (find p ys ≡ Some z)) → (z : A) × (cond b (Some y) (find p ys) ≡ Some z)
+  go true e later = (y, refl)
+  go false e later = later (⊎_elim (λ f. absurd (false≢true (sym e ∙ ap p f ∙ t))) (λ i. i) h)
+
 -- ascending lists
-In-there : {A : Type 0} (same : A → A → Bool) → ((a b : A) → same a b ≡ true → a ≡ b) → (x : A) (xs : List A) → list_any (λ y. same y x) xs ≡ true → In x xs
+pub In-there : {A : Type 0} (same : A → A → Bool) → ((a b : A) → same a b ≡ true → a ≡ b) → (x : A) (xs : List A) → list_any (λ y. same y x) xs ≡ true → In x xs
 In-there same one x [] h = absurd (false≢true h)
 In-there same one x (y ∷ ys) h = go (same y x) refl (λ i. In-there same one x ys i) h where
   go : (b : Bool) → same y x ≡ b → (list_any (λ z. same z x) ys ≡ true → In x ys) → (b || list_any (λ z. same z x) ys) ≡ true → (y ≡ x) ⊎ In x ys
@@ -87,7 +134,7 @@ pub in-all : {A : Type 0} (P : A → Type 0) (y : A) (xs : List A) → AllByRecu
 in-all P y [] a h = absurd h
 in-all P y (x ∷ xs) a h = ⊎_elim (λ e. subst P e a.0) (λ i. in-all P y xs a.1 i) h
 
-all-in : {A : Type 0} (xs : List A) (P : A → Type 0) → ((y : A) → In y xs → P y) → AllByRecursion P xs
+pub all-in : {A : Type 0} (xs : List A) (P : A → Type 0) → ((y : A) → In y xs → P y) → AllByRecursion P xs
 all-in [] P h = tt
 all-in (x ∷ xs) P h = (h x (inl refl), all-in xs P (λ y i. h y (inr i)))
 

@@ -1,5 +1,5 @@
--- The orders of prefixes and of hosts.
-use Rattle.std.proofs.Common.{ℕ, ◌≡◌, true, false, List, refl, ap, sym, ◌∙◌, arith, nat_eq}
+-- The orders of prefixes, of hosts, of numbers and of notices.
+use Rattle.std.proofs.Common.{ℕ, ◌≡◌, ◌==◌, ◌&&◌, true, false, List, refl, ap, sym, ◌∙◌, arith, nat_eq, nat_lt}
 use Rattle.std.proofs.lemmas.Bool.{false≢true}
 use Rattle.std.proofs.lemmas.Bool.Decides.{nat_tests}
 use Rattle.std.proofs.lemmas.Cmp.{nat_list_cmp_total, same_from_slice_cmp}
@@ -9,6 +9,9 @@ use Rattle.std.specs.declared.cmp.Ordering.{Ordering}
 use Rattle.std.specs.declared.cmp.Ordering.TheVariants.{Less, Equal, Greater}
 use Rattle.net_types.specs.Prefixes.{same_prefix, prefix_before}
 use Rattle.net_types.specs.Order.{same_text, text_before}
+use Rattle.net_types.specs.NetFacts.{notice_before}
+use Rattle.net_types.specs.declared.network.Notice.{Notice}
+use Rattle.topology.specs.Notices.{same_notice}
 use Rattle.topology.specs.Live.{same_host, host_before}
 use Rattle.topology.proofs.RisingLemmas.{IsOrder}
 
@@ -48,3 +51,38 @@ host_order = record {
   trans = λ x y z h k. text_order.trans x.host y.host z.host h k;
   total = λ x y h k. text_order.total x.host y.host h k;
 }
+
+number_trans : (x y z : ℕ) → nat_lt x y ≡ true → nat_lt y z ≡ true → nat_lt x z ≡ true
+number_trans x y z h k = grind (arith, nat_tests)
+
+number_total : (x y : ℕ) → nat_lt x y ≡ false → nat_eq y x ≡ false → nat_lt y x ≡ true
+number_total x y h k = grind (arith, nat_tests)
+
+pub number_order : IsOrder nat_eq nat_lt
+number_order = record { trans = λ x y z h k. number_trans x y z h k; total = λ x y h k. number_total x y h k }
+
+pub number-equal : (x y : ℕ) → nat_eq x y ≡ true → x ≡ y
+number-equal x y h = grind (arith, nat_tests)
+
+notice_trans : (a b c d e f : ℕ) → notice_before (record { router = a; address = b }) (record { router = c; address = d }) ≡ true → notice_before (record { router = c; address = d }) (record { router = e; address = f }) ≡ true → notice_before (record { router = a; address = b }) (record { router = e; address = f }) ≡ true
+notice_trans a b c d e f h k = grind (arith, nat_tests)
+
+notice_total : (a b c d : ℕ) → notice_before (record { router = a; address = b }) (record { router = c; address = d }) ≡ false → same_notice (record { router = c; address = d }) (record { router = a; address = b }) ≡ false → notice_before (record { router = c; address = d }) (record { router = a; address = b }) ≡ true
+notice_total a b c d h k = grind (arith, nat_tests)
+
+pub notice_order : IsOrder same_notice notice_before
+notice_order = record {
+  trans = λ x y z h k. notice_trans x.router x.address y.router y.address z.router z.address h k;
+  total = λ x y h k. notice_total x.router x.address y.router y.address h k;
+}
+
+pub notice-equal : (x y : Notice) → same_notice x y ≡ true → x ≡ y
+notice-equal x y h =
+    let router : x.router ≡ y.router = first x.router x.address y.router y.address h in
+    let address : x.address ≡ y.address = second x.router x.address y.router y.address h in
+    λ i. record { router = router i; address = address i } where
+      first : (a b c d : ℕ) → ((a == c) && (b == d)) ≡ true → a ≡ c
+      first a b c d h = grind (arith, nat_tests)
+
+      second : (a b c d : ℕ) → ((a == c) && (b == d)) ≡ true → b ≡ d
+      second a b c d h = grind (arith, nat_tests)

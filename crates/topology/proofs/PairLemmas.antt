@@ -1,13 +1,14 @@
 -- The least pair of positions of items that meet is what its recursion finds.
 use Rattle.std.proofs.Common.{ℕ, zero, suc, ◌≡◌, ◌+◌, ◌≤◌, ◌<◌, ◌⊎◌, inl, inr, ⊎_elim, Bool, true, false, not, cond, nat_lt, List, [], ◌∷◌, length, get_or, refl, ap, sym, ◌∙◌, arith, MatchOption, Option, Some, None}
 use Rattle.std.specs.Option.{option_map}
-use Rattle.std.specs.List.{position, position_or_len, slice_get}
+use Rattle.std.specs.List.{position, position_or_len, slice_get, AllByRecursion}
 use Rattle.std.proofs.lemmas.Bool.{false≢true}
 use Rattle.std.proofs.lemmas.Bool.Decides.{nat_tests}
 use Rattle.std.proofs.lemmas.Option.{slice_get_within, get_or_from_slice_get, slice_get-get_or}
 use Rattle.std.proofs.lemmas.List.Quantifiers.{position-Some}
 use Rattle.topology.specs.Pairs.{pair_or, least_pair}
 use Rattle.topology.specs.Meaning.{IsUpTo, IsLeastPair, NoPair}
+use Rattle.topology.proofs.RisingLemmas.{Rises}
 
 -- two items of a list meet, or one meets itself
 pub record Meet {A : Type 0} (itself : A → Bool) (meets : A → A → Bool) (xs : List A) (i j : ℕ) : Type 0 where
@@ -42,7 +43,7 @@ place-at_most p (x ∷ xs) (suc m) y h t = go (p x) (place-at_most p xs m y h t)
   go true i = omega arith
   go false i = omega arith
 
-none-position : {A : Type 0} (p : A → Bool) (xs : List A) → position p xs ≡ None → (m : ℕ) (y : A) → slice_get xs m ≡ Some y → p y ≡ false
+pub none-position : {A : Type 0} (p : A → Bool) (xs : List A) → position p xs ≡ None → (m : ℕ) (y : A) → slice_get xs m ≡ Some y → p y ≡ false
 none-position p xs e m y h = go (p y) refl where
   none : (b : Bool) (n : ℕ) → cond b (Some n) None ≡ None → b ≡ false
   none true n f = absurd (false≢true cc)
@@ -131,3 +132,21 @@ IsPair-least_pair {A = A} itself meets at (x ∷ xs) = go (itself x) refl (posit
   go true t o e i = first-itself itself meets at x xs t
   go false f (Some n) e i = first-behind itself meets at n x xs f e
   go false f None e i = later-pair itself meets at x xs (record { alone = f; apart = none-position (λ y. meets x y) xs e }) (least_pair itself meets (at + 1) xs) i
+
+-- where no least pair is found, no two items meet
+all-places : {A : Type 0} (P : A → Type 0) (xs : List A) → ((m : ℕ) (y : A) → slice_get xs m ≡ Some y → P y) → AllByRecursion P xs
+all-places P [] h = tt
+all-places P (x ∷ xs) h = (h 0 x refl, all-places P xs (λ m y e. h (suc m) y e))
+
+pub Rises-none : {A : Type 0} (meets : A → A → Bool) (at : ℕ) (xs : List A) → least_pair (λ _. false) meets at xs ≡ None → Rises (λ x y. not (meets x y)) xs
+Rises-none meets at [] e = tt
+Rises-none {A = A} meets at (x ∷ xs) e = go (position (λ y. meets x y) xs) refl e (λ f. Rises-none meets (at + 1) xs f) where
+  found : (p : ℕ × ℕ) → Some p ≡ None → false ≡ true
+  found p q = cc
+
+  apart : position (λ y. meets x y) xs ≡ None → (m : ℕ) (y : A) → slice_get xs m ≡ Some y → not (meets x y) ≡ true
+  apart q m y at = ap not (none-position (λ y. meets x y) xs q m y at)
+
+  go : (o : Option ℕ) → position (λ y. meets x y) xs ≡ o → pair_or at (option_map (λ k. k + 1) o) (least_pair (λ _. false) meets (at + 1) xs) ≡ None → (least_pair (λ _. false) meets (at + 1) xs ≡ None → Rises (λ x y. not (meets x y)) xs) → Rises (λ x y. not (meets x y)) (x ∷ xs)
+  go (Some n) q f later = absurd (false≢true (found (at, at + (n + 1)) f))
+  go None q f later = (all-places (λ y. not (meets x y) ≡ true) xs (apart q), later f)

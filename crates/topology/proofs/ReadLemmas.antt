@@ -1,32 +1,11 @@
--- What is read today is of OSPF alone.
-use Rattle.std.proofs.Common.{ℕ, suc, ◌≡◌, ◌+◌, ◌<◌, ◌++◌, List, [], ◌∷◌, length, drop, get_or, drop-cons, add-one, append_assoc, ◌∙◌, Option, Some, None, Result, Ok, Err, refl, ap, subst, sym}
+-- The files are read one after the other.
+use Rattle.std.proofs.Common.{ℕ, suc, ◌≡◌, ◌+◌, ◌<◌, ◌++◌, List, [], ◌∷◌, length, drop, get_or, drop-cons, add-one, append_assoc, ◌∙◌, Result, Ok, Err, refl, ap, sym}
 use Rattle.net_types.specs.declared.config.RouterConfig.{RouterConfig}
 use Rattle.net_types.specs.declared.config.SourceFile.{SourceFile}
 use Rattle.net_types.specs.declared.refusals.ReadRefusal.{ReadRefusal}
 use Rattle.net_types.specs.declared.refusals.BundleRefusal.{BundleRefusal}
-use Rattle.frr_reader.specs.State.{State, start}
-use Rattle.frr_reader.specs.Lines.{lines}
-use Rattle.frr_reader.specs.Reading.{Answers, reading, concluded, config_of, read_lines, RefusedLine}
-use Rattle.std.specs.Result.{IfOk}
-use Rattle.topology.specs.Network.{IsOspfOnly}
+use Rattle.frr_reader.specs.Reading.{reading}
 use Rattle.topology.specs.Bundle.{before, behind, configs_of}
-
-only-config_of : (s : State) (host : Option (List ℕ)) → IfOk (config_of s host) IsOspfOnly
-only-config_of s None = tt
-only-config_of s (Some host) = record { bgp = refl; prefix_lists = refl; community_lists = refl; maps = refl }
-
-only-concluded : (r : Result State RefusedLine) → IfOk (concluded r) IsOspfOnly
-only-concluded (Ok s) = only-config_of s s.host
-only-concluded (Err line) = tt
-
-pub only-reading : (text : List ℕ) → IfOk (reading text) IsOspfOnly
-unfolding reading
-only-reading text = only-concluded (read_lines start (lines text))
-
--- the same of an answer
-pub only-answer : (text : List ℕ) (answer : Result RouterConfig ReadRefusal) → Answers (reading text) answer → IfOk answer IsOspfOnly
-only-answer text (Ok config) e = let P : Result RouterConfig ReadRefusal → Type 0 = λ v. IfOk v IsOspfOnly in subst P e (only-reading text)
-only-answer text (Err refusal) e = tt
 
 behind-before : (at : ℕ) (done : List RouterConfig) (config : RouterConfig) (read : Result RouterConfig ReadRefusal) (later : Result (List RouterConfig) BundleRefusal) → read ≡ Ok config → behind (done ++ config ∷ []) later ≡ behind done (before at read later)
 behind-before at done config read (Ok configs) e = rw e (ap (λ xs. Ok xs) (append_assoc done (config ∷ []) configs))

@@ -1,10 +1,11 @@
 -- Lists that rise: they stay so when an item is put into them, and what is true of all items stays true.
 use Rattle.std.proofs.Common.{ℕ, zero, suc, ◌≡◌, ◌+◌, ◌≤◌, ◌++◌, ◌||◌, Bool, true, false, not, cond, List, [], ◌∷◌, map, fold, length, refl, ap, sym, ◌∙◌, arith, AllPairs}
-use Rattle.std.specs.List.{list_any, position_or_len, insert, AllByRecursion, filter_map, filter, cons_option}
+use Rattle.std.specs.List.{list_any, position_or_len, insert, AllByRecursion, filter_map, filter, flat_map, cons_option}
 use Rattle.std.specs.Option.{IfSome}
 use Rattle.std.specs.Prelude.{Option, Some, None}
 use Rattle.std.proofs.lemmas.Bool.{false≢true}
-use Rattle.std.proofs.lemmas.List.Elements.{All-from_recursion}
+use Rattle.std.proofs.lemmas.List.Elements.{All-from_recursion, All-map as map-all}
+use Rattle.std.proofs.lemmas.List.Kept.{AllPairs-cons}
 use Rattle.topology.specs.Ascending.{is_there, put, ascending}
 
 -- each item stands before all that follow it
@@ -103,6 +104,38 @@ length-fold same before (x ∷ xs) done = let a = length-put same before done x 
 pub length-ascending : {A : Type 0} (same before : A → A → Bool) (xs : List A) → length (ascending same before xs) ≤ length xs
 length-ascending same before xs = let a = length-fold same before xs [] in omega arith
 
+pub all-both : {A : Type 0} (P Q R : A → Type 0) → ((x : A) → P x → Q x → R x) → (xs : List A) → AllByRecursion P xs → AllByRecursion Q xs → AllByRecursion R xs
+all-both P Q R h [] a b = tt
+all-both P Q R h (x ∷ xs) a b = (h x a.0 b.0, all-both P Q R h xs a.1 b.1)
+
+pub every : {A : Type 0} (xs : List A) → AllByRecursion (λ _. Unit {0}) xs
+every [] = tt
+every (x ∷ xs) = (tt, every xs)
+
+-- items that are apart in either order stay apart when they are put in order
+Rises-put_before-apart : {A : Type 0} (apart : A → A → Bool) → ((x y : A) → apart x y ≡ true → apart y x ≡ true) → (before : A → A → Bool) (x : A) (xs : List A) → AllByRecursion (λ y. apart x y ≡ true) xs → Rises apart xs → Rises apart (put_before before x xs)
+Rises-put_before-apart apart back before x [] a r = (tt, tt)
+Rises-put_before-apart apart back before x (y ∷ ys) a r = go (before x y) (Rises-put_before-apart apart back before x ys a.1 r.1) where
+  go : (b : Bool) → Rises apart (put_before before x ys) → Rises apart (cond b (x ∷ y ∷ ys) (y ∷ put_before before x ys))
+  go true i = (a, r)
+  go false i = (All-put_before (λ z. apart y z ≡ true) before x ys (back x y a.0) r.0, i)
+
+Rises-put-apart : {A : Type 0} (apart : A → A → Bool) → ((x y : A) → apart x y ≡ true → apart y x ≡ true) → (same before : A → A → Bool) (xs : List A) (x : A) → AllByRecursion (λ y. apart x y ≡ true) xs → Rises apart xs → Rises apart (put same before xs x)
+Rises-put-apart apart back same before xs x a r = go (is_there same x xs) where
+  go : (b : Bool) → Rises apart (cond b xs (insert xs (position_or_len (λ y. before x y) xs) x))
+  go true = r
+  go false = rw (insert-place before x xs) (Rises-put_before-apart apart back before x xs a r)
+
+Rises-fold-apart : {A : Type 0} (apart : A → A → Bool) → ((x y : A) → apart x y ≡ true → apart y x ≡ true) → (same before : A → A → Bool) (xs done : List A) → Rises apart xs → Rises apart done → AllByRecursion (λ x. AllByRecursion (λ d. apart x d ≡ true) done) xs → Rises apart (fold (λ done x. put same before done x) done xs)
+Rises-fold-apart apart back same before [] done r d a = d
+Rises-fold-apart apart back same before (x ∷ xs) done r d a =
+    Rises-fold-apart apart back same before xs (put same before done x) r.1
+    (Rises-put-apart apart back same before done x a.0 d)
+    (all-both (λ y. apart x y ≡ true) (λ y. AllByRecursion (λ z. apart y z ≡ true) done) (λ y. AllByRecursion (λ z. apart y z ≡ true) (put same before done x)) (λ y p q. All-put (λ z. apart y z ≡ true) same before done x (back x y p) q) xs r.0 a.1)
+
+pub Rises-ascending-apart : {A : Type 0} (apart : A → A → Bool) → ((x y : A) → apart x y ≡ true → apart y x ≡ true) → (same before : A → A → Bool) (xs : List A) → Rises apart xs → Rises apart (ascending same before xs)
+Rises-ascending-apart apart back same before xs r = Rises-fold-apart apart back same before xs [] r tt (every xs)
+
 -- a list that rises, by its pairs
 pub AllPairs-from_rises : {A : Type 0} (before : A → A → Bool) (xs : List A) → Rises before xs → AllPairs (λ a b. before a b ≡ true) xs
 AllPairs-from_rises before [] r i j d l h = absurd (omega arith)
@@ -126,6 +159,10 @@ pub All-append : {A : Type 0} (P : A → Type 0) (xs ys : List A) → AllByRecur
 All-append P [] ys a b = b
 All-append P (x ∷ xs) ys a b = (a.0, All-append P xs ys a.1 b)
 
+pub All-flat_map : {A B : Type 0} (f : A → List B) (P : A → Type 0) (Q : B → Type 0) → ((x : A) → P x → AllByRecursion Q (f x)) → (xs : List A) → AllByRecursion P xs → AllByRecursion Q (flat_map f xs)
+All-flat_map f P Q h [] a = tt
+All-flat_map f P Q h (x ∷ xs) a = All-append Q (f x) (flat_map f xs) (h x a.0) (All-flat_map f P Q h xs a.1)
+
 -- what an item gives, where it gives something
 pub All-filter_map : {A B : Type 0} (f : A → Option B) (P : A → Type 0) (Q : B → Type 0) → ((x : A) → P x → IfSome (f x) Q) → (xs : List A) → AllByRecursion P xs → AllByRecursion Q (filter_map f xs)
 All-filter_map f P Q h [] a = tt
@@ -148,3 +185,8 @@ Rises-filter_map {A = A} {B = B} f g before h (x ∷ xs) r = go (f x) (h x) (Ris
     later : (z : A) → before x z ≡ true → (o : Option B) → IfSome o (λ w. g w ≡ z) → IfSome o (λ w. before (g y) (g w) ≡ true)
     later z q None k = tt
     later z q (Some w) k = rw (e, k) q
+
+-- pairs of what is seen through a function
+pub AllPairs-map : {A B : Type 0} (R : B → B → Type 0) (f : A → B) (xs : List A) → AllPairs (λ a b. R (f a) (f b)) xs → AllPairs R (map f xs)
+AllPairs-map R f [] a = λ i j d l h. absurd (omega arith)
+AllPairs-map R f (x ∷ xs) a = AllPairs-cons R (f x) (map f xs) (map-all (R (f x)) f xs (λ k d l. a 0 (suc k) d (omega arith) (omega arith))) (AllPairs-map R f xs (λ i j d l h. a (suc i) (suc j) d (omega arith) (omega arith)))

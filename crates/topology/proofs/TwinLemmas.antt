@@ -1,4 +1,4 @@
--- What the least pairs of configurations mean: one host, or one address.
+-- What the least pairs of configurations mean: one host, one AS number, or one address.
 use Rattle.std.proofs.Common.{ℕ, zero, suc, ◌≡◌, ◌+◌, ◌<◌, ◌==◌, ◌||◌, ◌⊎◌, inl, inr, ⊎_elim, Bool, true, false, cond, nat_lt, List, [], ◌∷◌, length, get_or, refl, ap, sym, subst, ◌∙◌, arith, zero-add, Option, Some, None, nat_eq, MatchOption}
 use Rattle.std.specs.List.{list_any, slice_get}
 use Rattle.std.specs.Prelude.{Result, Ok, Err}
@@ -14,13 +14,14 @@ use Rattle.net_types.specs.declared.config.Interface.{Interface}
 use Rattle.net_types.specs.declared.refusals.NetRefusal.{NetRefusal}
 use Rattle.net_types.specs.declared.refusals.NetRefusal.TheVariants.{SameHost, SameAs, SameAddress, SharedSubnet, TooManyLinks, TooManyCommunities, TooManyRouters, NoMemory}
 use Rattle.topology.specs.Pairs.{any_pair}
-use Rattle.topology.specs.Live.{same_host, same_number, share_address, link_address, has_address_twice, meet_at_address}
+use Rattle.topology.specs.Live.{same_host, same_number, same_system, asn_of, share_address, link_address, has_address_twice, meet_at_address}
 use Rattle.net_types.specs.NetValue.{NetValue}
 use Rattle.net_types.specs.PrefixValue.{PrefixValue}
 use Rattle.topology.specs.Live.{ports}
 use Rattle.topology.specs.Groups.{wires, shared_subnet}
-use Rattle.topology.specs.Network.{Answers, unless, whole_refusals, net_of, host_pair, address_pair}
-use Rattle.topology.specs.Meaning.{HaveOneHost, HaveOneAddress, IsLeastPair, NoPair, NamesLeastPair}
+use Rattle.topology.specs.Communities.{communities}
+use Rattle.topology.specs.Network.{Answers, unless, whole_refusals, net_of, host_pair, system_pair, address_pair}
+use Rattle.topology.specs.Meaning.{HaveOneHost, HaveOneSystem, HaveOneAddress, IsLeastPair, NoPair, NoneMeet, NamesLeastPair}
 use Rattle.topology.proofs.PairLemmas.{Meet, IsPair, IsPair-least_pair}
 
 pub same_text-equal : (xs ys : List ℕ) → pointwise nat_eq xs ys ≡ true → xs ≡ ys
@@ -59,6 +60,21 @@ one_number (Some x) (Some y) h = let e : y ≡ x = grind (arith, nat_tests) in (
 
 number-one : (a b : Option ℕ) (n : ℕ) → a ≡ Some n → b ≡ Some n → same_number a b ≡ true
 number-one a b n e f = rw (e, f) (let same : (n == n) ≡ true = grind (arith, nat_tests) in same)
+
+-- AS numbers
+system-from_meet : (configs : List RouterConfig) (i j : ℕ) → Meet (λ _. false) same_system configs i j → HaveOneSystem configs i j
+system-from_meet configs i j m = ⊎_elim
+    (λ h. let n = one_number (asn_of m.x) (asn_of m.y) h.1 in record { first = m.x; second = m.y; first_at = m.x_at; second_at = m.y_at; order = h.0; asn = n.0; first_has = n.1; second_has = n.2 })
+    (λ h. absurd (false≢true h.1)) m.how
+
+meet-from_system : (configs : List RouterConfig) (i j : ℕ) → HaveOneSystem configs i j → Meet (λ _. false) same_system configs i j
+meet-from_system configs i j m = record {
+  x = m.first;
+  y = m.second;
+  x_at = m.first_at;
+  y_at = m.second_at;
+  how = inl (m.order, number-one (asn_of m.first) (asn_of m.second) m.asn m.first_has m.second_has);
+}
 
 -- two interfaces of one list that share an address, and their places
 record HasTwice (interfaces : List Interface) : Type 0 where
@@ -176,6 +192,12 @@ least-host_pair configs = go (host_pair configs) (IsPair-least_pair (λ _. false
   go None p = λ i j m. p i j (meet-from_host configs i j m)
   go (Some q) p = carried (Meet (λ _. false) same_host configs) (HaveOneHost configs) (host-from_meet configs) (meet-from_host configs) q.0 q.1 p.0 p.1 p.2 p.3 p.4
 
+pub least-system_pair : (configs : List RouterConfig) → MatchOption (system_pair configs) (NoPair (HaveOneSystem configs)) (λ p. IsLeastPair (HaveOneSystem configs) p.0 p.1)
+least-system_pair configs = go (system_pair configs) (IsPair-least_pair (λ _. false) same_system 0 configs) where
+  go : (found : Option (ℕ × ℕ)) → IsPair (λ _. false) same_system 0 configs found → MatchOption found (NoPair (HaveOneSystem configs)) (λ p. IsLeastPair (HaveOneSystem configs) p.0 p.1)
+  go None p = λ i j m. p i j (meet-from_system configs i j m)
+  go (Some q) p = carried (Meet (λ _. false) same_system configs) (HaveOneSystem configs) (system-from_meet configs) (meet-from_system configs) q.0 q.1 p.0 p.1 p.2 p.3 p.4
+
 pub least-address_pair : (configs : List RouterConfig) → MatchOption (address_pair configs) (NoPair (HaveOneAddress configs)) (λ p. IsLeastPair (HaveOneAddress configs) p.0 p.1)
 least-address_pair configs = go (address_pair configs) (IsPair-least_pair has_address_twice meet_at_address 0 configs) where
   go : (found : Option (ℕ × ℕ)) → IsPair has_address_twice meet_at_address 0 configs found → MatchOption found (NoPair (HaveOneAddress configs)) (λ p. IsLeastPair (HaveOneAddress configs) p.0 p.1)
@@ -183,26 +205,33 @@ least-address_pair configs = go (address_pair configs) (IsPair-least_pair has_ad
   go (Some q) p = carried (Meet has_address_twice meet_at_address configs) (HaveOneAddress configs) (address-from_meet configs) (meet-from_address configs) q.0 q.1 p.0 p.1 p.2 p.3 p.4
 
 -- the refusals of the whole name no pair
-whole-names : {A : Type 0} (o : Option PrefixValue) (b c : Bool) (m n : ℕ) (net : A) (r : NetRefusal) → unless (option_map (λ prefix. SharedSubnet prefix) o ∷ cond b (Some (TooManyLinks m)) None ∷ cond c (Some (TooManyRouters n)) None ∷ []) net ≡ Err r → (i j : ℕ) → (r ≡ SameHost i j) ⊎ (r ≡ SameAddress i j) → ⊥
-whole-names (Some prefix) b c m n net r e i j h = ⊎_elim (λ f. cc) (λ f. cc) h
-whole-names None true c m n net r e i j h = ⊎_elim (λ f. cc) (λ f. cc) h
-whole-names None false true m n net r e i j h = ⊎_elim (λ f. cc) (λ f. cc) h
-whole-names None false false m n net r e i j h = ⊎_elim (λ f. cc) (λ f. cc) h
+abbrev Pairs : NetRefusal → ℕ → ℕ → Type 0
+Pairs r i j = (r ≡ SameHost i j) ⊎ ((r ≡ SameAs i j) ⊎ (r ≡ SameAddress i j))
+
+whole-names : {A : Type 0} (o : Option PrefixValue) (b c d : Bool) (l m n : ℕ) (net : A) (r : NetRefusal) → unless (option_map (λ prefix. SharedSubnet prefix) o ∷ cond b (Some (TooManyLinks l)) None ∷ cond c (Some (TooManyCommunities m)) None ∷ cond d (Some (TooManyRouters n)) None ∷ []) net ≡ Err r → (i j : ℕ) → Pairs r i j → ⊥
+whole-names (Some prefix) b c d l m n net r e i j h = ⊎_elim (λ f. cc) (λ g. ⊎_elim (λ f. cc) (λ f. cc) g) h
+whole-names None true c d l m n net r e i j h = ⊎_elim (λ f. cc) (λ g. ⊎_elim (λ f. cc) (λ f. cc) g) h
+whole-names None false true d l m n net r e i j h = ⊎_elim (λ f. cc) (λ g. ⊎_elim (λ f. cc) (λ f. cc) g) h
+whole-names None false false true l m n net r e i j h = ⊎_elim (λ f. cc) (λ g. ⊎_elim (λ f. cc) (λ f. cc) g) h
+whole-names None false false false l m n net r e i j h = ⊎_elim (λ f. cc) (λ g. ⊎_elim (λ f. cc) (λ f. cc) g) h
 
 abbrev pub IsWhole : List RouterConfig → Result NetValue NetRefusal → Type 0
 IsWhole configs result = Answers (unless (whole_refusals configs) (net_of configs)) result
 
+no-pair : (configs : List RouterConfig) (r : NetRefusal) (i j : ℕ) → unless (whole_refusals configs) (net_of configs) ≡ Err r → Pairs r i j → ⊥
+no-pair configs r i j e h = whole-names (shared_subnet (ports configs)) (nat_lt 64 (length (wires (ports configs)))) (nat_lt 64 (length (communities configs))) (nat_lt 64 (length configs)) (length (wires (ports configs))) (length (communities configs)) (length configs) (net_of configs) r e i j h
+
 -- where no pair meets, the answer of the whole says so
-pub names-whole : (configs : List RouterConfig) (result : Result NetValue NetRefusal) → NoPair (HaveOneHost configs) → NoPair (HaveOneAddress configs) → IsWhole configs result → NamesLeastPair configs result
-names-whole configs (Ok net) h a e = (h, a)
-names-whole configs (Err (SameHost i j)) h a e = absurd (whole-names (shared_subnet (ports configs)) (nat_lt 64 (length (wires (ports configs)))) (nat_lt 64 (length configs)) (length (wires (ports configs))) (length configs) (net_of configs) (SameHost i j) e i j (inl refl))
-names-whole configs (Err (SameAddress i j)) h a e = absurd (whole-names (shared_subnet (ports configs)) (nat_lt 64 (length (wires (ports configs)))) (nat_lt 64 (length configs)) (length (wires (ports configs))) (length configs) (net_of configs) (SameAddress i j) e i j (inr refl))
-names-whole configs (Err (SameAs i j)) h a e = (h, a)
-names-whole configs (Err (SharedSubnet p)) h a e = (h, a)
-names-whole configs (Err (TooManyLinks n)) h a e = (h, a)
-names-whole configs (Err (TooManyCommunities n)) h a e = (h, a)
-names-whole configs (Err (TooManyRouters n)) h a e = (h, a)
-names-whole configs (Err NoMemory) h a e = tt
+pub names-whole : (configs : List RouterConfig) (result : Result NetValue NetRefusal) → NoneMeet configs → IsWhole configs result → NamesLeastPair configs result
+names-whole configs (Ok net) h e = h
+names-whole configs (Err (SameHost i j)) h e = absurd (no-pair configs (SameHost i j) i j e (inl refl))
+names-whole configs (Err (SameAs i j)) h e = absurd (no-pair configs (SameAs i j) i j e (inr (inl refl)))
+names-whole configs (Err (SameAddress i j)) h e = absurd (no-pair configs (SameAddress i j) i j e (inr (inr refl)))
+names-whole configs (Err (SharedSubnet p)) h e = h
+names-whole configs (Err (TooManyLinks n)) h e = h
+names-whole configs (Err (TooManyCommunities n)) h e = h
+names-whole configs (Err (TooManyRouters n)) h e = h
+names-whole configs (Err NoMemory) h e = tt
 
 -- the same of what was found
 pub named-host : (configs : List RouterConfig) (found : Option (ℕ × ℕ)) (i j : ℕ) → found ≡ host_pair configs → found ≡ Some (i, j) → IsLeastPair (HaveOneHost configs) i j
@@ -211,6 +240,17 @@ named-host configs found i j e f = let P : Option (ℕ × ℕ) → Type 0 = λ o
 pub no-host : (configs : List RouterConfig) (found : Option (ℕ × ℕ)) → found ≡ host_pair configs → ((p : ℕ × ℕ) → found ≡ Some p → ⊥) → NoPair (HaveOneHost configs)
 no-host configs None e n = let P : Option (ℕ × ℕ) → Type 0 = λ o. MatchOption o (NoPair (HaveOneHost configs)) (λ p. IsLeastPair (HaveOneHost configs) p.0 p.1) in subst P (sym e) (least-host_pair configs)
 no-host configs (Some p) e n = absurd (n p refl)
+
+pub named-system : (configs : List RouterConfig) (found : Option (ℕ × ℕ)) (i j : ℕ) → found ≡ system_pair configs → found ≡ Some (i, j) → IsLeastPair (HaveOneSystem configs) i j
+named-system configs found i j e f = let P : Option (ℕ × ℕ) → Type 0 = λ o. MatchOption o (NoPair (HaveOneSystem configs)) (λ p. IsLeastPair (HaveOneSystem configs) p.0 p.1) in subst P (sym e ∙ f) (least-system_pair configs)
+
+pub no-system : (configs : List RouterConfig) (found : Option (ℕ × ℕ)) → found ≡ system_pair configs → ((p : ℕ × ℕ) → found ≡ Some p → ⊥) → NoPair (HaveOneSystem configs)
+no-system configs None e n = let P : Option (ℕ × ℕ) → Type 0 = λ o. MatchOption o (NoPair (HaveOneSystem configs)) (λ p. IsLeastPair (HaveOneSystem configs) p.0 p.1) in subst P (sym e) (least-system_pair configs)
+no-system configs (Some p) e n = absurd (n p refl)
+
+pub none-system : (configs : List RouterConfig) (found : Option (ℕ × ℕ)) → found ≡ system_pair configs → ((p : ℕ × ℕ) → found ≡ Some p → ⊥) → system_pair configs ≡ None
+none-system configs None e n = sym e
+none-system configs (Some p) e n = absurd (n p refl)
 
 pub named-address : (configs : List RouterConfig) (found : Option (ℕ × ℕ)) (i j : ℕ) → found ≡ address_pair configs → found ≡ Some (i, j) → IsLeastPair (HaveOneAddress configs) i j
 named-address configs found i j e f = let P : Option (ℕ × ℕ) → Type 0 = λ o. MatchOption o (NoPair (HaveOneAddress configs)) (λ p. IsLeastPair (HaveOneAddress configs) p.0 p.1) in subst P (sym e ∙ f) (least-address_pair configs)

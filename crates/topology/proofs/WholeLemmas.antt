@@ -14,14 +14,14 @@ use Rattle.net_types.specs.declared.refusals.NetRefusal.{NetRefusal}
 use Rattle.net_types.specs.declared.refusals.NetRefusal.TheVariants.{SameHost, SameAs, SameAddress, SharedSubnet, TooManyLinks, TooManyCommunities, TooManyRouters, NoMemory}
 use Rattle.topology.specs.declared.interfaces.Port.{Port}
 use Rattle.topology.specs.Live.{ports, can_link}
-use Rattle.topology.specs.Groups.{group, is_in, is_shared, kind_at, subnets_of, shared_subnet, wires, links, link_of}
+use Rattle.topology.specs.Groups.{group, is_in, is_shared, kind_at, subnets_of, shared_subnet, wires}
+use Rattle.topology.specs.Communities.{communities}
 use Rattle.topology.specs.Network.{Answers, unless, whole_refusals, net_of}
 use Rattle.topology.specs.Meaning.{IsRefused, IsLeastRefused, NoneRefused, NamesWhole, IsAscending}
 use Rattle.topology.proofs.RisingLemmas.{Rises, Rises-ascending}
 use Rattle.topology.proofs.OrderLaws.{prefix_order}
-use Rattle.topology.proofs.NetLemmas.{length-map}
-use Rattle.topology.proofs.MemberLemmas.{In, Contains-from_In, In-from_Contains, In-filter, from-filter, IsAscending-ascending, in-all}
-use Rattle.topology.proofs.MeaningLemmas.{same_prefix-equal, same_prefix-itself, subnet-in, from-map}
+use Rattle.topology.proofs.MemberLemmas.{In, Contains-from_In, In-from_Contains, In-filter, from-filter, IsAscending-ascending, in-all, from-map}
+use Rattle.topology.proofs.MeaningLemmas.{same_prefix-equal, same_prefix-itself, subnet-in}
 
 prefix_behind : (p q : PrefixValue) → prefix_before p q ≡ true → prefix_before q p ≡ false
 prefix_behind p q h = go p.bits p.len q.bits q.len h where
@@ -72,25 +72,28 @@ IsLeast-shared_subnet all = go (shared_subnet all) (find-least (λ subnet. is_sh
   go (Some subnet) h = record { refused = IsRefused-from all subnet h.0 h.1; least = λ other r. h.2 other (refused-there all other r) r.shared }
 
 -- the answer by what was found and counted
-named : (configs : List RouterConfig) (o : Option PrefixValue) (b c : Bool) (m n : ℕ) → MatchOption o (NoneRefused (ports configs)) (λ subnet. IsLeastRefused (ports configs) subnet) → m ≡ length (links (ports configs)) → n ≡ length configs → (b ≡ true → 64 < m) → (c ≡ true → 64 < n) → NamesWhole configs (unless (option_map (λ prefix. SharedSubnet prefix) o ∷ cond b (Some (TooManyLinks m)) None ∷ cond c (Some (TooManyRouters n)) None ∷ []) (net_of configs))
-named configs (Some subnet) b c m n l e f g h = l
-named configs None true c m n l e f g h = (l, e, g refl)
-named configs None false true m n l e f g h = (l, f, h refl)
-named configs None false false m n l e f g h = l
+named : (configs : List RouterConfig) (o : Option PrefixValue) (b c d : Bool) → MatchOption o (NoneRefused (ports configs)) (λ subnet. IsLeastRefused (ports configs) subnet) → (b ≡ true → 64 < length (wires (ports configs))) → (c ≡ true → 64 < length (communities configs)) → (d ≡ true → 64 < length configs) → NamesWhole configs (unless (option_map (λ prefix. SharedSubnet prefix) o ∷ cond b (Some (TooManyLinks (length (wires (ports configs))))) None ∷ cond c (Some (TooManyCommunities (length (communities configs)))) None ∷ cond d (Some (TooManyRouters (length configs))) None ∷ []) (net_of configs))
+named configs (Some subnet) b c d l f g h = l
+named configs None true c d l f g h = (l, refl, f refl)
+named configs None false true d l f g h = (l, refl, g refl)
+named configs None false false true l f g h = (l, refl, h refl)
+named configs None false false false l f g h = l
 
 over : (n : ℕ) → nat_lt 64 n ≡ true → 64 < n
 over n h = grind (arith, nat_tests)
 
 NamesWhole-unless : (configs : List RouterConfig) → NamesWhole configs (unless (whole_refusals configs) (net_of configs))
-NamesWhole-unless configs = named configs (shared_subnet (ports configs)) (nat_lt 64 (length (wires (ports configs)))) (nat_lt 64 (length configs)) (length (wires (ports configs))) (length configs) (IsLeast-shared_subnet (ports configs)) (sym (length-map (λ wire. link_of wire) (wires (ports configs)))) refl (over (length (wires (ports configs)))) (over (length configs))
+NamesWhole-unless configs =
+    named configs (shared_subnet (ports configs)) (nat_lt 64 (length (wires (ports configs)))) (nat_lt 64 (length (communities configs))) (nat_lt 64 (length configs)) (IsLeast-shared_subnet (ports configs))
+    (over (length (wires (ports configs)))) (over (length (communities configs))) (over (length configs))
 
 pub NamesWhole-answer : (configs : List RouterConfig) (answer : Result NetValue NetRefusal) → Answers (unless (whole_refusals configs) (net_of configs)) answer → NamesWhole configs answer
 NamesWhole-answer configs (Ok net) e = let P : Result NetValue NetRefusal → Type 0 = λ r. NamesWhole configs r in subst P e (NamesWhole-unless configs)
 NamesWhole-answer configs (Err (SharedSubnet subnet)) e = let P : Result NetValue NetRefusal → Type 0 = λ r. NamesWhole configs r in subst P e (NamesWhole-unless configs)
 NamesWhole-answer configs (Err (TooManyLinks n)) e = let P : Result NetValue NetRefusal → Type 0 = λ r. NamesWhole configs r in subst P e (NamesWhole-unless configs)
+NamesWhole-answer configs (Err (TooManyCommunities n)) e = let P : Result NetValue NetRefusal → Type 0 = λ r. NamesWhole configs r in subst P e (NamesWhole-unless configs)
 NamesWhole-answer configs (Err (TooManyRouters n)) e = let P : Result NetValue NetRefusal → Type 0 = λ r. NamesWhole configs r in subst P e (NamesWhole-unless configs)
 NamesWhole-answer configs (Err (SameHost i j)) e = tt
 NamesWhole-answer configs (Err (SameAs i j)) e = tt
 NamesWhole-answer configs (Err (SameAddress i j)) e = tt
-NamesWhole-answer configs (Err (TooManyCommunities n)) e = tt
 NamesWhole-answer configs (Err NoMemory) e = tt

@@ -1,9 +1,6 @@
--- Groups of interfaces in one subnet, and the links that they make.
+-- Groups of interfaces in one subnet, and the pairs of them that are links.
 use Rattle.std.specs.Prelude.{◌<◌, ◌&&◌, nat_lt, Bool, true, false, List, [], ◌∷◌, Option, Some, None, filter, find, map, if◌then◌else◌}
 use Rattle.std.specs.List.{filter_map}
-use Rattle.net_types.specs.declared.network.Link.{Link}
-use Rattle.net_types.specs.declared.network.End.{End}
-use Rattle.net_types.specs.declared.network.Policy.TheVariants.{Closed}
 use Rattle.net_types.specs.PrefixValue.{PrefixValue}
 use Rattle.net_types.specs.Prefixes.{same_prefix}
 use Rattle.topology.specs.declared.interfaces.Port.{Port}
@@ -53,20 +50,6 @@ wire_of subnet _ = None
 -- the pairs of interfaces that are links, in the order of their subnets
 abbrev pub wires : List Port → List Wire
 wires ports = filter_map (λ subnet. wire_of subnet (kind_at ports subnet)) (subnets_of ports)
-
-abbrev pub end_of : Port → End
-end_of port = record { router = port.router; address = port.address; cost = port.cost; «import» = Closed; «export» = Closed }
-
--- a link is an adjacency where both ends run OSPF
-abbrev pub link_of : Wire → Link
-link_of wire = record { subnet = wire.subnet; low = end_of wire.low; high = end_of wire.high; session = false; adjacency = wire.low.ospf && wire.high.ospf }
-
-abbrev pub links_of : List Wire → List Link
-links_of wires = map (λ wire. link_of wire) wires
-
--- the links, in the order of their subnets
-abbrev pub links : List Port → List Link
-links ports = links_of (wires ports)
 
 -- the routers of both ends have numbers below 64
 pub record IsNumbered (wire : Wire) : Type 0 where

@@ -3,6 +3,12 @@ pub mod Pairs
 pub mod Live
 pub mod Groups
 pub mod Owning
+pub mod Communities
+pub mod Resolving
+pub mod Sessions
+pub mod Links
+pub mod Notices
+pub mod Routers
 pub mod Network
 pub mod Bundle
 pub mod Meaning

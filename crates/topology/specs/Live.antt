@@ -4,6 +4,7 @@ use Rattle.std.specs.List.{list_any, filter_map}
 use Rattle.std.specs.Option.{option_map_or}
 use Rattle.net_types.specs.declared.config.RouterConfig.{RouterConfig}
 use Rattle.net_types.specs.declared.config.Interface.{Interface}
+use Rattle.net_types.specs.declared.config.BgpConfig.{BgpConfig}
 use Rattle.net_types.specs.Order.{same_text, text_before}
 use Rattle.net_types.specs.PrefixValue.{PrefixValue}
 use Rattle.net_types.specs.Prefixes.{covers}
@@ -81,3 +82,11 @@ has_address_twice config = any_pair share_address config.interfaces
 -- two configurations have an address in common
 abbrev pub meet_at_address : RouterConfig → RouterConfig → Bool
 meet_at_address a b = list_any (λ x. list_any (λ y. share_address x y) b.interfaces) a.interfaces
+
+-- the AS number of a configuration, where it has `router bgp`
+abbrev pub asn_of : RouterConfig → Option ℕ
+asn_of config = option_map (λ (bgp : BgpConfig). bgp.asn) config.bgp
+
+-- two configurations have one AS number
+abbrev pub same_system : RouterConfig → RouterConfig → Bool
+same_system a b = same_number (asn_of a) (asn_of b)

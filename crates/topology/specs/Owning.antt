@@ -1,9 +1,10 @@
 -- The stubs of a router, and the prefixes that it owns.
-use Rattle.std.specs.Prelude.{ℕ, ◌+◌, ◌==◌, ◌&&◌, ◌||◌, not, min, Bool, true, false, List, [], ◌∷◌, Option, Some, None, filter, fold, map, if◌then◌else◌}
+use Rattle.std.specs.Prelude.{ℕ, ◌==◌, ◌&&◌, ◌||◌, ◌++◌, not, min, Bool, true, false, List, [], Option, Some, None, filter, fold, map, if◌then◌else◌}
+use Rattle.std.specs.List.{list_any}
+use Rattle.std.specs.Option.{option_map_or}
 use Rattle.net_types.specs.declared.config.RouterConfig.{RouterConfig}
-use Rattle.net_types.specs.declared.network.Router.{Router}
+use Rattle.net_types.specs.declared.config.BgpConfig.{BgpConfig}
 use Rattle.net_types.specs.declared.network.Owned.{Owned}
-use Rattle.net_types.specs.declared.network.Policy.TheVariants.{Closed}
 use Rattle.net_types.specs.PrefixValue.{PrefixValue}
 use Rattle.net_types.specs.Prefixes.{same_prefix}
 use Rattle.topology.specs.declared.interfaces.Port.{Port}
@@ -41,29 +42,25 @@ least numbers = fold (λ least n. lesser least n) None numbers
 abbrev pub least_cost : List Port → PrefixValue → Option ℕ
 least_cost stubs prefix = least (map (λ port. stub_cost port) (filter (λ port. port.ospf && same_prefix port.subnet prefix) stubs))
 
-abbrev pub owned_of : List Port → PrefixValue → Owned
-owned_of stubs prefix = record { prefix = prefix; network = false; stub = true; ospf_cost = least_cost stubs prefix }
+-- the prefix is that of one of the stubs
+abbrev pub has_stub : List Port → PrefixValue → Bool
+has_stub stubs prefix = list_any (λ port. same_prefix port.subnet prefix) stubs
 
-abbrev pub prefixes_of : List Port → List PrefixValue
-prefixes_of stubs = ascending_prefixes (map (λ port. port.subnet) stubs)
+-- the prefix stands in one of the `network` lines
+abbrev pub has_network : List PrefixValue → PrefixValue → Bool
+has_network networks prefix = list_any (λ q. same_prefix q prefix) networks
 
--- the prefixes of the stubs, ascending, each once
-abbrev pub owned_by : List Port → List Owned
-owned_by stubs = map (λ prefix. owned_of stubs prefix) (prefixes_of stubs)
+abbrev pub owned_of : List Port → List PrefixValue → PrefixValue → Owned
+owned_of stubs networks prefix = record { prefix = prefix; network = has_network networks prefix; stub = has_stub stubs prefix; ospf_cost = least_cost stubs prefix }
 
-abbrev pub router_of : List Port → ℕ → RouterConfig → Router
-router_of ports router config = record {
-  host = config.host;
-  asn = None;
-  owned = owned_by (stubs ports router);
-  connected = Closed;
-  ospf = Closed;
-  prefix_lists = [];
-  community_lists = [];
-  maps = [];
-}
+-- the prefixes of the stubs and of the `network` lines, ascending, each once
+abbrev pub prefixes_of : List Port → List PrefixValue → List PrefixValue
+prefixes_of stubs networks = ascending_prefixes (map (λ port. port.subnet) stubs ++ networks)
 
--- the routers of configurations that are numbered from this number on
-abbrev pub routers_from : List Port → ℕ → List RouterConfig → List Router
-routers_from ports router [] = []
-routers_from ports router (config ∷ configs) = router_of ports router config ∷ routers_from ports (router + 1) configs
+-- what a router with these stubs and `network` lines owns
+abbrev pub owned_by : List Port → List PrefixValue → List Owned
+owned_by stubs networks = map (λ prefix. owned_of stubs networks prefix) (prefixes_of stubs networks)
+
+-- the prefixes of the `network` lines of a configuration's BGP
+abbrev pub networks_of : RouterConfig → List PrefixValue
+networks_of config = option_map_or (λ (bgp : BgpConfig). bgp.networks) config.bgp []

@@ -3,7 +3,8 @@
 ghost use Rattle.std.specs.Prelude.{◌≡◌, IfOk, All};
 ghost use Rattle.net_types.specs.ConfigFacts.{IsConfig};
 ghost use Rattle.frr_reader.specs.Reading.{reading, Answers};
-ghost use Rattle.topology.specs.Network.{IsOspfOnly, network_of};
+ghost use Rattle.topology.specs.Meaning.{SessionsHaveSystems};
+ghost use Rattle.topology.specs.Network.{network_of};
 ghost use Rattle.topology.specs.Bundle.{bytes_of, named, configs_of, in_net, bundle_of, BundleAnswers};
 
 use crate::networks::build;
@@ -21,7 +22,8 @@ const MAX_BYTES: u64 = 4_194_304;
 ///
 /// Files are numbered by their place in the list, which a caller gives in the byte order of their names.
 pub fn read_bundle(alloc: Global, files: &[SourceFile]) -> Result<Net, BundleRefusal>
-    ensures { BundleAnswers (bundle_of files.now) result }
+    ensures exact { BundleAnswers (bundle_of files.now) result }
+    ensures sessions { IfOk result (λ net. SessionsHaveSystems net) }
 {
     if files.len() > MAX_FILES {
         return Err(BundleRefusal::TooManyFiles(files.len() as u64));
@@ -49,7 +51,6 @@ fn bytes_of(files: &[SourceFile]) -> u64
 fn read_file(alloc: Global, file: &SourceFile) -> Result<RouterConfig, ReadRefusal>
     ensures exact { Answers (reading file.now.text) result }
     ensures valid { IfOk result IsConfig }
-    ensures ospf_only { IfOk result IsOspfOnly }
 {
     read_router(alloc, file.text.as_slice())
 }
@@ -58,7 +59,6 @@ fn read_file(alloc: Global, file: &SourceFile) -> Result<RouterConfig, ReadRefus
 fn configs_of(alloc: Global, files: &[SourceFile]) -> Result<List<RouterConfig>, BundleRefusal>
     ensures exact { BundleAnswers (configs_of 0 files.now) result }
     ensures valid { IfOk result (λ configs. All IsConfig configs) }
-    ensures ospf_only { IfOk result (λ configs. All IsOspfOnly configs) }
 {
     let mut configs = Vec::new(alloc);
     for (at, file) in files.iter().enumerate() {
@@ -73,9 +73,9 @@ fn configs_of(alloc: Global, files: &[SourceFile]) -> Result<List<RouterConfig>,
 
 // The network of configurations, as that of files.
 fn net_of(alloc: Global, configs: &[RouterConfig]) -> Result<Net, BundleRefusal>
-    requires valid { All IsConfig configs.now }
-    requires ospf_only { All IsOspfOnly configs.now }
-    ensures { BundleAnswers (in_net (network_of configs.now)) result }
+    requires { All IsConfig configs.now }
+    ensures exact { BundleAnswers (in_net (network_of configs.now)) result }
+    ensures sessions { IfOk result (λ net. SessionsHaveSystems net) }
 {
     match build(alloc, configs) {
         Ok(net) => Ok(net),

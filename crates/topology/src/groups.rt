@@ -1,13 +1,11 @@
-//! The groups of interfaces in one subnet, and the links that they make.
+//! The groups of interfaces in one subnet, and the pairs of them that are links.
 
-ghost use Rattle.std.specs.Prelude.{◌≡◌, ◌<◌, ◌≤◌, length, IfOk, OnOk, All};
-ghost use Rattle.std.specs.List.{position_or_len};
-ghost use Rattle.topology.specs.Ascending.{put, is_there};
-ghost use Rattle.topology.specs.Groups.{is_in, group, joined, kind_of, kind_at, subnets_of, shared_subnet, wires, end_of, link_of, links_of, IsNumbered};
-ghost use Rattle.net_types.specs.Prefixes.{same_prefix, prefix_before};
+ghost use Rattle.std.specs.Prelude.{◌≡◌, IfOk};
+ghost use Rattle.topology.specs.Groups.{is_in, group, joined, kind_of, kind_at, subnets_of, shared_subnet, wires};
 
+use crate::ascending::put;
 use crate::interfaces::Port;
-use net_types::{End, Link, Policy, Prefix};
+use net_types::Prefix;
 use std::alloc::{AllocError, Global};
 
 /// What the interfaces in one subnet make.
@@ -30,34 +28,6 @@ pub struct Wire {
     pub low: Port,
     /// The interface at the router with the higher number.
     pub high: Port,
-}
-
-// Puts a prefix at its place among ascending ones, unless it is there.
-pub fn put(prefixes: &mut Vec<Prefix>, prefix: Prefix) -> Result<(), AllocError>
-    ensures { OnOk result (prefixes.new.items ≡ put same_prefix prefix_before prefixes.old.items prefix) }
-{
-    if is_there(prefixes, &prefix) {
-        return Ok(());
-    }
-    let place = place(prefixes, &prefix);
-    prefixes.insert(place, prefix)?;
-    Ok(())
-}
-
-fn is_there(prefixes: &[Prefix], prefix: &Prefix) -> bool
-    ensures { result ≡ is_there same_prefix prefix.now prefixes.now }
-{
-    prefixes.iter().any(|other| other.is_same(prefix))
-}
-
-fn place(prefixes: &[Prefix], prefix: &Prefix) -> usize
-    ensures value { result ≡ position_or_len (λ y. prefix_before prefix.now y) prefixes.now }
-    ensures within { result ≤ length prefixes.now }
-{
-    prefixes
-        .iter()
-        .take_while(|other| !prefix.is_before(other))
-        .count()
 }
 
 /// The subnets of the interfaces that can be ends of links, ascending.
@@ -140,46 +110,6 @@ pub fn wires(alloc: Global, ports: &[Port], subnets: &[Prefix]) -> Result<Vec<Wi
                 high,
             })?;
         }
-    }
-    Ok(all)
-}
-
-// An end of a link that is no session.
-fn end_of(port: &Port) -> End
-    requires { port.now.router < 64 }
-    ensures { result ≡ end_of port.now }
-{
-    End {
-        router: port.router as u8,
-        address: port.address,
-        cost: port.cost,
-        import: Policy::Closed,
-        export: Policy::Closed,
-    }
-}
-
-fn link_of(wire: &Wire) -> Link
-    requires low { wire.now.low.router < 64 }
-    requires high { wire.now.high.router < 64 }
-    ensures { result ≡ link_of wire.now }
-{
-    Link {
-        subnet: wire.subnet,
-        low: end_of(&wire.low),
-        high: end_of(&wire.high),
-        session: false,
-        adjacency: wire.low.ospf && wire.high.ospf,
-    }
-}
-
-/// The links of these pairs of interfaces.
-pub fn links(alloc: Global, wires: &[Wire]) -> Result<Vec<Link>, AllocError>
-    requires { All IsNumbered wires.now }
-    ensures { IfOk result (λ v. v.items ≡ links_of wires.now) }
-{
-    let mut all = Vec::new(alloc);
-    for wire in wires {
-        all.push(link_of(wire))?;
     }
     Ok(all)
 }

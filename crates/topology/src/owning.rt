@@ -1,11 +1,13 @@
-//! The routers, and the prefixes that they own.
+//! The stubs of a router, and the prefixes that it owns.
 
-ghost use Rattle.std.specs.Prelude.{◌≡◌, IfOk, Some, map, filter};
-ghost use Rattle.topology.specs.Owning.{is_alone, is_stub, stubs, stub_cost, lesser, least_cost, owned_of, prefixes_of, owned_by, router_of, routers_from};
+ghost use Rattle.std.specs.Prelude.{◌≡◌, IfOk, Some, map};
+ghost use Rattle.topology.specs.Ascending.{ascending_prefixes};
+ghost use Rattle.topology.specs.Owning.{is_stub, stubs, stub_cost, lesser, least_cost, has_stub, has_network, owned_of, prefixes_of, owned_by, networks_of};
 
-use crate::groups::{Group, group_at, put};
+use crate::ascending::put;
+use crate::groups::{Group, group_at};
 use crate::interfaces::Port;
-use net_types::{List, Owned, Policy, Prefix, Router, RouterConfig, Text};
+use net_types::{Owned, Prefix, RouterConfig};
 use std::alloc::{AllocError, Global};
 
 // Whether the interface is a stub.
@@ -21,8 +23,8 @@ fn is_stub(alloc: Global, ports: &[Port], port: &Port) -> Result<bool, AllocErro
     }
 }
 
-// The stubs of a router.
-fn stubs(alloc: Global, ports: &[Port], router: usize) -> Result<Vec<Port>, AllocError>
+/// The stubs of a router.
+pub fn stubs(alloc: Global, ports: &[Port], router: usize) -> Result<Vec<Port>, AllocError>
     ensures { IfOk result (λ v. v.items ≡ stubs ports.now router) }
 {
     let mut all = Vec::new(alloc);
@@ -63,9 +65,34 @@ fn least_cost(stubs: &[Port], prefix: &Prefix) -> Option<u32>
     least
 }
 
+// Whether the prefix is that of one of the stubs.
+fn has_stub(stubs: &[Port], prefix: &Prefix) -> bool
+    ensures { result ≡ has_stub stubs.now prefix.now }
+{
+    stubs.iter().any(|port| port.subnet.is_same(prefix))
+}
+
+// Whether the prefix stands in one of the `network` lines.
+fn has_network(networks: &[Prefix], prefix: &Prefix) -> bool
+    ensures { result ≡ has_network networks.now prefix.now }
+{
+    networks.iter().any(|network| network.is_same(prefix))
+}
+
+fn owned_of(stubs: &[Port], networks: &[Prefix], prefix: &Prefix) -> Owned
+    ensures { result ≡ owned_of stubs.now networks.now prefix.now }
+{
+    Owned {
+        prefix: *prefix,
+        network: has_network(networks, prefix),
+        stub: has_stub(stubs, prefix),
+        ospf_cost: least_cost(stubs, prefix),
+    }
+}
+
 // The prefixes of the stubs, ascending.
-fn prefixes_of(alloc: Global, stubs: &[Port]) -> Result<Vec<Prefix>, AllocError>
-    ensures { IfOk result (λ v. v.items ≡ prefixes_of stubs.now) }
+fn stub_prefixes(alloc: Global, stubs: &[Port]) -> Result<Vec<Prefix>, AllocError>
+    ensures { IfOk result (λ v. v.items ≡ ascending_prefixes (map (λ port. port.subnet) stubs.now)) }
 {
     let mut all = Vec::new(alloc);
     for port in stubs {
@@ -74,56 +101,43 @@ fn prefixes_of(alloc: Global, stubs: &[Port]) -> Result<Vec<Prefix>, AllocError>
     Ok(all)
 }
 
-// What a router with these stubs owns.
-fn owned_by(alloc: Global, stubs: &[Port]) -> Result<Vec<Owned>, AllocError>
-    ensures { IfOk result (λ v. v.items ≡ owned_by stubs.now) }
+// The prefixes of the stubs and of the `network` lines, ascending.
+fn prefixes_of(
+    alloc: Global,
+    stubs: &[Port],
+    networks: &[Prefix],
+) -> Result<Vec<Prefix>, AllocError>
+    ensures { IfOk result (λ v. v.items ≡ prefixes_of stubs.now networks.now) }
 {
-    let prefixes = prefixes_of(alloc, stubs)?;
+    let mut all = stub_prefixes(alloc, stubs)?;
+    for network in networks {
+        put(&mut all, *network)?;
+    }
+    Ok(all)
+}
+
+/// What a router with these stubs and `network` lines owns.
+pub fn owned_by(
+    alloc: Global,
+    stubs: &[Port],
+    networks: &[Prefix],
+) -> Result<Vec<Owned>, AllocError>
+    ensures { IfOk result (λ v. v.items ≡ owned_by stubs.now networks.now) }
+{
+    let prefixes = prefixes_of(alloc, stubs, networks)?;
     let mut all = Vec::new(alloc);
     for prefix in &prefixes {
-        all.push(Owned {
-            prefix: *prefix,
-            network: false,
-            stub: true,
-            ospf_cost: least_cost(stubs, prefix),
-        })?;
+        all.push(owned_of(stubs, networks, prefix))?;
     }
     Ok(all)
 }
 
-// The router of this number and configuration.
-fn router_of(
-    alloc: Global,
-    ports: &[Port],
-    number: usize,
-    config: &RouterConfig,
-) -> Result<Router, AllocError>
-    ensures { IfOk result (λ router. router ≡ router_of ports.now number config.now) }
+/// The prefixes of the `network` lines of a configuration's BGP.
+pub fn networks_of(config: &RouterConfig) -> &[Prefix]
+    ensures { result.now ≡ networks_of config.now }
 {
-    let stubs = stubs(alloc, ports, number)?;
-    Ok(Router {
-        host: Text::from_str(alloc, config.host.as_str())?,
-        asn: None,
-        owned: List::from_vec(owned_by(alloc, &stubs)?),
-        connected: Policy::Closed,
-        ospf: Policy::Closed,
-        prefix_lists: List::new(alloc),
-        community_lists: List::new(alloc),
-        maps: List::new(alloc),
-    })
-}
-
-/// The routers of these configurations.
-pub fn routers(
-    alloc: Global,
-    ports: &[Port],
-    configs: &[&RouterConfig],
-) -> Result<Vec<Router>, AllocError>
-    ensures { IfOk result (λ v. v.items ≡ routers_from ports.now 0 (map (λ c. c.now) configs.now)) }
-{
-    let mut all = Vec::new(alloc);
-    for (number, config) in configs.iter().enumerate() {
-        all.push(router_of(alloc, ports, number, config)?)?;
+    match &config.bgp {
+        Some(bgp) => bgp.networks.as_slice(),
+        None => &[],
     }
-    Ok(all)
 }

@@ -1,13 +1,14 @@
-//! The least pairs of configurations that have a host or an address in common.
+//! The least pairs of configurations that have a host, an AS number or an address in common.
 
 ghost use Rattle.std.specs.Prelude.{◌≡◌, ◌<◌, ◌≤◌, IfSome, false, position, length};
 ghost use Rattle.std.specs.List.{list_any};
 ghost use Rattle.topology.specs.Pairs.{partner, any_pair};
-ghost use Rattle.topology.specs.Live.{same_host, same_number, share_address, has_address_twice, meet_at_address};
-ghost use Rattle.topology.specs.Network.{host_pair, address_pair};
+ghost use Rattle.topology.specs.Live.{same_host, same_number, same_system, share_address, has_address_twice, meet_at_address};
+ghost use Rattle.topology.specs.Network.{host_pair, system_pair, address_pair};
 
 use crate::interfaces::link_address;
 use crate::order::is_same;
+use crate::sessions::asn_of;
 use net_types::{Interface, RouterConfig};
 
 // The first of the others that has this configuration's host.
@@ -41,6 +42,7 @@ pub fn host_pair(configs: &[RouterConfig]) -> Option<(usize, usize)>
     None
 }
 
+// Whether both numbers are there and are one.
 fn same_number(a: Option<u32>, b: Option<u32>) -> bool
     ensures { result ≡ same_number a b }
 {
@@ -48,6 +50,46 @@ fn same_number(a: Option<u32>, b: Option<u32>) -> bool
         (Some(a), Some(b)) => a == b,
         _ => false,
     }
+}
+
+// Whether the two have one AS number.
+fn is_same_system(a: &RouterConfig, b: &RouterConfig) -> bool
+    ensures { result ≡ same_system a.now b.now }
+{
+    same_number(asn_of(a), asn_of(b))
+}
+
+// The first of the others that has this configuration's AS number.
+fn of_system(config: &RouterConfig, others: &[RouterConfig]) -> Option<usize>
+    ensures value { result ≡ position (λ y. same_system config.now y) others.now }
+    ensures within { IfSome result (λ at. at < length others.now) }
+{
+    others
+        .iter()
+        .position(|other| is_same_system(config, other))
+}
+
+// How far behind the configuration the first other one of its AS number stands.
+fn system_partner(config: &RouterConfig, others: &[RouterConfig]) -> Option<usize>
+    ensures value { result ≡ partner (λ _. false) same_system config.now others.now }
+    ensures within { IfSome result (λ far. far ≤ length others.now) }
+{
+    match of_system(config, others) {
+        Some(between) => Some(between + 1),
+        None => None,
+    }
+}
+
+/// The least pair of positions of one AS number.
+pub fn system_pair(configs: &[RouterConfig]) -> Option<(usize, usize)>
+    ensures { result ≡ system_pair configs.now }
+{
+    for (at, config) in configs.iter().enumerate() {
+        if let Some(far) = system_partner(config, &configs[at + 1..]) {
+            return Some((at, at + far));
+        }
+    }
+    None
 }
 
 // Whether the two are live, can be ends of links, and have one address.

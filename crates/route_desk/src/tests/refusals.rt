@@ -83,7 +83,21 @@ fn refused_bundles(rt: HostRuntime) {
             "hostname a\ninterface eth0\n ip address 10.0.0.1/30\ninterface eth1\n ip address 10.0.0.1/29\n",
         ),
     ];
+    let one_system: [File<'_>; 3] = [
+        ("old/", ""),
+        ("new/r1.conf", "hostname r1\nrouter bgp 65001\n"),
+        ("new/r2.conf", "hostname r2\nrouter bgp 65001\n"),
+    ];
+    let foreign: [File<'_>; 2] = [
+        ("old/", ""),
+        (
+            "new/r1.conf",
+            "hostname r1\nrouter bgp 65001\nroute-map P permit 10\nset as-path prepend 65001 65009\n",
+        ),
+    ];
     let alloc = rt.alloc();
+    assert!(rt; refuses(alloc, &one_system, "refused: new: SameAs r1.conf r2.conf\n"));
+    assert!(rt; refuses(alloc, &foreign, "refused: new: r1.conf: ForeignAs line 4\n"));
     assert!(rt; refuses(alloc, &shared, "refused: new: SharedSubnet 10.0.0.0/24\n"));
     assert!(rt;
         refuses(
@@ -95,6 +109,20 @@ fn refused_bundles(rt: HostRuntime) {
     assert!(rt; refuses(alloc, &nameless, "refused: base: a.conf: NoHostname\n"));
     assert!(rt; refuses(alloc, &twins, "refused: new: SameHost a.conf b.conf\n"));
     assert!(rt; refuses(alloc, &twice, "refused: new: SameAddress a.conf a.conf\n"));
+}
+
+#[test]
+fn bgp_not_yet(rt: HostRuntime) {
+    let speaking: [File<'_>; 4] = [
+        (
+            "old/r1.conf",
+            "hostname r1\nrouter ospf\nrouter bgp 65001\n bgp router-id 1.1.1.1\n",
+        ),
+        ("old/r2.conf", "hostname r2\nrouter bgp 65002\n"),
+        ("new/r1.conf", "hostname r1\nrouter bgp 65001\n"),
+        ("new/r2.conf", "hostname r1\n"),
+    ];
+    assert!(rt; refuses(rt.alloc(), &speaking, "refused: base: NoBgpYet r1\n"));
 }
 
 #[test]

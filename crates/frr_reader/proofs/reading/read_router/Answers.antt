@@ -1,5 +1,5 @@
 use Rattle.frr_reader.specs.Reading.{reading}
-use Rattle.frr_reader.proofs.KeptLemmas.{reading_kept, answer_kept}
+use Rattle.frr_reader.proofs.ConfigLemmas.{reading_kept, answer_kept}
 use Rattle.frr_reader.proofs.reading.read_router.Goals as goal
 
 pub returns-clause-kept : goal.returns-clause-kept

@@ -1,5 +1,5 @@
 use Rattle.std.proofs.Common.{◌≡◌, map, drop}
-use Rattle.frr_reader.specs.declared.table.LineForm.{LineForm}
+use Rattle.frr_reader.specs.declared.rows.LineForm.{LineForm}
 use Rattle.frr_reader.specs.Table.{first_given, by_form, form}
 use Rattle.frr_reader.proofs.table.found_in.Given as goal
 

@@ -1,6 +1,6 @@
 use Rattle.std.proofs.Common.{◌≡◌, map, drop}
 use Rattle.std.specs.List.{list_any}
-use Rattle.frr_reader.specs.declared.table.LineForm.{LineForm}
+use Rattle.frr_reader.specs.declared.rows.LineForm.{LineForm}
 use Rattle.frr_reader.specs.Table.{has_head, form}
 use Rattle.frr_reader.proofs.table.is_known.Given as goal
 

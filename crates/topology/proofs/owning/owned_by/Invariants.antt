@@ -3,4 +3,4 @@ use Rattle.topology.specs.Owning.{owned_of}
 use Rattle.topology.proofs.owning.owned_by.Given as goal
 
 abbrev pub invariant-loop-prefix : goal.invariant-loop-prefix
-invariant-loop-prefix l = l.all.items ≡ map (λ prefix. owned_of l.stubs prefix) (take l.prefix-index l.prefix-items)
+invariant-loop-prefix l = l.all.items ≡ map (λ prefix. owned_of l.stubs l.networks prefix) (take l.prefix-index l.prefix-items)

@@ -1,10 +1,6 @@
 use Rattle.std.proofs.lemmas.List.Elements.{All-push, All-same}
 use Rattle.net_types.specs.ConfigFacts.{IsConfig}
-use Rattle.topology.specs.Network.{IsOspfOnly}
 use Rattle.topology.proofs.tests.configs.Goals as goal
 
 pub loop-number-preserved : goal.loop-number-preserved
-loop-number-preserved c = record {
-  valid = All-same IsConfig _ _ c.in_ok-push.ensures.items (All-push IsConfig _ _ c.loop-number.invariant.valid c.in_ok-config.ensures.valid);
-  ospf_only = All-same IsOspfOnly _ _ c.in_ok-push.ensures.items (All-push IsOspfOnly _ _ c.loop-number.invariant.ospf_only c.in_ok-config.ensures.ospf_only);
-}
+loop-number-preserved c = All-same IsConfig _ _ c.in_ok-push.ensures.items (All-push IsConfig _ _ c.loop-number.invariant c.in_ok-config.ensures)

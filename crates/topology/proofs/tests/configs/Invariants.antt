@@ -1,7 +1,6 @@
 use Rattle.std.proofs.Common.{All}
 use Rattle.net_types.specs.ConfigFacts.{IsConfig}
-use Rattle.topology.specs.Network.{IsOspfOnly}
 use Rattle.topology.proofs.tests.configs.Given as goal
 
 abbrev pub invariant-loop-number : goal.invariant-loop-number
-invariant-loop-number l = record { valid : All IsConfig l.all.items; ospf_only : All IsOspfOnly l.all.items }
+invariant-loop-number l = All IsConfig l.all.items

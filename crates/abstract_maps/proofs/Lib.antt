@@ -1,0 +1,10 @@
+pub mod SetWords
+pub mod StatusLemmas
+pub mod RowSetLemmas
+pub mod WordLemmas
+pub mod MapLemmas
+pub mod TransferLemmas
+pub mod GrowthLemmas
+pub mod ArcLemmas
+pub mod LocalLemmas
+pub mod PreferringLemmas

@@ -1,0 +1,143 @@
+-- What is true of the abstract maps and transfers of every network.
+use Rattle.std.specs.Prelude.{ℕ, ◌≡◌, ◌<◌, ◌≤◌, ◌^◌, ◌⊎◌, true, false, length, Some, Option, IfSome}
+use Rattle.abstract_route.specs.declared.rows.Row.{Row}
+use Rattle.abstract_route.specs.Fits.{Fits, IsExact, IsIn, on_path}
+use Rattle.abstract_route.specs.Rows.{IsBelow, IsInhabited, IsRow, bottom}
+use Rattle.concrete_algebra.specs.Carrying.{carry_gives}
+use Rattle.concrete_algebra.specs.LocalRoutes.{local_of}
+use Rattle.concrete_algebra.specs.Maps.{map_gives}
+use Rattle.net_types.specs.declared.arcs.Arc.{Arc}
+use Rattle.net_types.specs.declared.network.Policy.{Policy}
+use Rattle.net_types.specs.declared.routes.Route.{Route}
+use Rattle.net_types.specs.Arcs.{is_session, receiver_of}
+use Rattle.net_types.specs.NetFacts.{IsNet}
+use Rattle.net_types.specs.NetValue.{NetValue}
+use Rattle.net_types.specs.PrefixValue.{PrefixValue}
+use Rattle.abstract_maps.specs.AbstractMap.{IsShort, abstract_map, sure}
+use Rattle.abstract_maps.specs.LocalRow.{local_row}
+use Rattle.abstract_maps.specs.Transfer.{free, gives, longest, opens, passes, transfer}
+
+-- what a policy gives of a route that fits a row fits what it makes of the row
+abbrev pub MapIsSound : Type 0
+MapIsSound =
+    (net : NetValue) (u : ℕ) (policy : Policy) (prefix : PrefixValue) (row : Row) (route given : Route) → IsNet net → u < length net.routers →
+    Fits route row → map_gives net u policy prefix route ≡ Some given → Fits given (abstract_map net u policy prefix row)
+
+-- a policy leaves no route of a row, or an inhabited row
+abbrev pub MapIsNoneOrInhabited : Type 0
+MapIsNoneOrInhabited =
+    (net : NetValue) (u : ℕ) (policy : Policy) (prefix : PrefixValue) (row : Row) → IsNet net → u < length net.routers →
+    (abstract_map net u policy prefix row ≡ bottom) ⊎ IsInhabited (abstract_map net u policy prefix row)
+
+-- what a policy makes of a row grows with an inhabited row
+abbrev pub MapGrows : Type 0
+MapGrows =
+    (net : NetValue) (u : ℕ) (policy : Policy) (prefix : PrefixValue) (a b : Row) → IsNet net → u < length net.routers →
+    IsInhabited a → IsBelow a b → IsBelow (abstract_map net u policy prefix a) (abstract_map net u policy prefix b)
+
+-- a policy that is sure of a row gives something of each route that fits it
+abbrev pub SureGives : Type 0
+SureGives =
+    (net : NetValue) (u : ℕ) (policy : Policy) (prefix : PrefixValue) (row : Row) (route : Route) → IsNet net → u < length net.routers →
+    Fits route row → sure net u policy prefix row ≡ true → (given : Route) × (map_gives net u policy prefix route ≡ Some given)
+
+-- a route of a row that the arc carries fits the transfer, if its path is no longer than the cut
+abbrev pub TransferIsSound : Type 0
+TransferIsSound =
+    (net : NetValue) (prefix : PrefixValue) (arc : Arc) (row : Row) (sent route : Route) → IsNet net → IsRow row →
+    is_session net arc ≡ true → IsIn sent row → carry_gives net prefix arc sent ≡ Some route → length route.path ≤ longest net →
+    Fits route (transfer net prefix arc row)
+
+-- it is in the row that the arc adds to its receiver's
+abbrev pub GivesIsSound : Type 0
+GivesIsSound =
+    (net : NetValue) (prefix : PrefixValue) (arc : Arc) (row : Row) (sent route : Route) → IsNet net → IsRow row →
+    is_session net arc ≡ true → IsIn sent row → carry_gives net prefix arc sent ≡ Some route → length route.path ≤ longest net →
+    IsIn route (gives net prefix arc row)
+
+-- the router that the arc goes to is on the route's path
+abbrev pub Meets : NetValue → Arc → Route → Type 0
+Meets net arc route = (u : ℕ) × (receiver_of net arc ≡ Some u) × (on_path u route.path ≡ true)
+
+-- where an arc passes a row, it carries each route of the row, but for one whose path the receiver is on
+abbrev pub PassingIsSure : Type 0
+PassingIsSure =
+    (net : NetValue) (prefix : PrefixValue) (arc : Arc) (row : Row) (sent : Route) → IsNet net → IsRow row →
+    passes net prefix arc row ≡ true → IsIn sent row →
+    ((route : Route) × (carry_gives net prefix arc sent ≡ Some route)) ⊎ Meets net arc sent
+
+-- the transfer, and what an arc gives, grow with the row
+abbrev pub TransferGrows : Type 0
+TransferGrows =
+    (net : NetValue) (prefix : PrefixValue) (arc : Arc) (a b : Row) → IsNet net → IsRow b → IsBelow a b →
+    IsBelow (transfer net prefix arc a) (transfer net prefix arc b)
+
+abbrev pub GivesGrows : Type 0
+GivesGrows =
+    (net : NetValue) (prefix : PrefixValue) (arc : Arc) (a b : Row) → IsNet net → IsRow b → IsBelow a b →
+    IsBelow (gives net prefix arc a) (gives net prefix arc b)
+
+-- what is open for a row is open for each row above
+abbrev pub OpenGrows : Type 0
+OpenGrows =
+    (net : NetValue) (prefix : PrefixValue) (arc : Arc) (a b : Row) → IsNet net → IsBelow a b →
+    opens net prefix arc a ≡ true → opens net prefix arc b ≡ true
+
+-- an arc that passes a row is open for it
+abbrev pub PassesIsOpen : Type 0
+PassesIsOpen =
+    (net : NetValue) (prefix : PrefixValue) (arc : Arc) (row : Row) → IsNet net →
+    passes net prefix arc row ≡ true → opens net prefix arc row ≡ true
+
+-- an arc makes no route of a row, or an inhabited row; so it does were the receiver on no path
+abbrev pub TransferIsNoneOrInhabited : Type 0
+TransferIsNoneOrInhabited =
+    (net : NetValue) (prefix : PrefixValue) (arc : Arc) (row : Row) → IsNet net →
+    (transfer net prefix arc row ≡ bottom) ⊎ IsInhabited (transfer net prefix arc row)
+
+abbrev pub FreeIsNoneOrInhabited : Type 0
+FreeIsNoneOrInhabited =
+    (net : NetValue) (prefix : PrefixValue) (arc : Arc) (row : Row) → IsNet net →
+    (free net prefix arc row ≡ bottom) ⊎ IsInhabited (free net prefix arc row)
+
+-- an arc that is not open for a row makes nothing of it
+abbrev pub ClosedIsBottom : Type 0
+ClosedIsBottom =
+    (net : NetValue) (prefix : PrefixValue) (arc : Arc) (row : Row) → IsNet net →
+    opens net prefix arc row ≡ false → transfer net prefix arc row ≡ bottom
+
+-- what an arc makes of a row of 64-bit words is one, and its paths are short
+abbrev pub TransferIsRow : Type 0
+TransferIsRow =
+    (net : NetValue) (prefix : PrefixValue) (arc : Arc) (row : Row) → IsNet net → IsRow row →
+    IsRow (transfer net prefix arc row)
+
+abbrev pub GivesIsRow : Type 0
+GivesIsRow =
+    (net : NetValue) (prefix : PrefixValue) (arc : Arc) (row : Row) → IsNet net → IsRow row →
+    IsRow (gives net prefix arc row)
+
+abbrev pub TransferIsShort : Type 0
+TransferIsShort =
+    (net : NetValue) (prefix : PrefixValue) (arc : Arc) (row : Row) → IsNet net → IsShort (transfer net prefix arc row)
+
+abbrev pub GivesIsShort : Type 0
+GivesIsShort =
+    (net : NetValue) (prefix : PrefixValue) (arc : Arc) (row : Row) → IsNet net → IsShort (gives net prefix arc row)
+
+-- the row of a router's local route is the least that the route fits
+abbrev pub LocalIsExact : Type 0
+LocalIsExact =
+    (net : NetValue) (prefix : PrefixValue) (u : ℕ) (distance : Option ℕ) (route : Route) → IsNet net → u < length net.routers →
+    local_of net prefix u distance ≡ Some route → IsExact route (local_row net prefix u distance)
+
+-- it is a row of 64-bit words, where the distance is one, and its paths are short
+abbrev pub LocalIsRow : Type 0
+LocalIsRow =
+    (net : NetValue) (prefix : PrefixValue) (u : ℕ) (distance : Option ℕ) → IsNet net → u < length net.routers →
+    IfSome distance (λ d. d < 2 ^ 64) → IsRow (local_row net prefix u distance)
+
+abbrev pub LocalIsShort : Type 0
+LocalIsShort =
+    (net : NetValue) (prefix : PrefixValue) (u : ℕ) (distance : Option ℕ) → IsNet net → u < length net.routers →
+    IsShort (local_row net prefix u distance)

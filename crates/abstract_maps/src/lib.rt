@@ -1,0 +1,30 @@
+//! What route maps and arcs make of rows: the policy of a router on all routes of a row at once.
+//!
+//! Decides: what a policy makes of a row, what an arc makes of it, and whether an arc surely carries each of its
+//! routes. What they make of one route, `concrete_algebra` decides; how rows are ordered, `abstract_route`.
+//! Stands on: `net_types`, `abstract_route`, and the definitions of `concrete_algebra`. No call takes memory.
+//! Promises: each answer is the one of `specs/`, for every network; and the laws, stated in `specs/Laws.antt`, say
+//! that a carried route of a row fits what the arc makes of the row, that a row which passes is carried, and that
+//! what arcs make of rows grows with the rows. Not: that what is left open can happen.
+#![tactic(auto)]
+
+mod entries;
+mod exports;
+mod imports;
+mod laws;
+mod lists;
+mod local_rows;
+mod maps;
+mod row_sets;
+mod statuses;
+#[cfg(test)]
+mod tests;
+mod transfers;
+
+pub use laws::{
+    growth_laws, local_laws, map_laws, open_laws, passing_law, row_laws, soundness_laws,
+};
+pub use local_rows::local_row;
+pub use maps::run_map_abs;
+pub use statuses::Status;
+pub use transfers::{is_open, passes, transfer};

@@ -1,0 +1,7 @@
+pub mod DeleteLemmas
+pub mod OptionLemmas
+pub mod PathLemmas
+pub mod RoutingLemmas
+pub mod FindingLemmas
+pub mod TestLemmas
+pub mod ChainLemmas

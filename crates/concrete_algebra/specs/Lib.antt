@@ -1,0 +1,9 @@
+pub mod Maps
+pub mod Carrying
+pub mod LocalRoutes
+pub mod Problem
+pub mod Stability
+pub mod Laws
+pub mod Findings
+pub mod Answers
+pub mod Chains

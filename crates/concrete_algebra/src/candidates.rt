@@ -1,0 +1,129 @@
+//! The candidates of a router under a labelling.
+
+ghost use Rattle.std.specs.Prelude.{◌≡◌, ◌<◌, ◌^◌, ℕ, IfOk, Some, length};
+ghost use Rattle.std.specs.Option.{option_copied};
+ghost use Rattle.net_types.specs.Arcs.{is_up, receiver_of};
+ghost use Rattle.net_types.specs.Distance.{distance_at};
+ghost use Rattle.concrete_algebra.specs.Findings.{arrival, carried_label, is_into, local_candidate};
+ghost use Rattle.concrete_algebra.specs.Stability.{is_learned, label_at};
+
+use crate::carrying::carry;
+use crate::local_routes::local_route;
+use crate::orders::{same_router, sender_of};
+use net_types::{Arc, FailSet, Net, NoMemory, Prefix, Route, Source};
+use std::alloc::Global;
+
+/// The label of a router, where it has one.
+pub(crate) fn label_at(labels: &[Option<Route>], router: u8) -> Option<&Route>
+    ensures { option_copied result ≡ label_at labels.now router }
+{
+    labels.get(usize::from(router))?.as_ref()
+}
+
+// Whether the label is a learned route.
+fn is_learned(label: Option<&Route>) -> bool
+    ensures { result ≡ is_learned (option_copied label.entry) }
+{
+    match label {
+        None => false,
+        Some(route) => match route.source {
+            Source::Local => false,
+            Source::Learned(_) => true,
+        },
+    }
+}
+
+// The router that an arc goes to.
+fn receiver_of(net: &Net, arc: Arc) -> Option<u8>
+    ensures { result ≡ receiver_of net.now arc }
+{
+    let link = net.links().get(usize::from(arc.link))?;
+    if arc.down {
+        Some(link.low.router)
+    } else {
+        Some(link.high.router)
+    }
+}
+
+// Whether the arc is of a session, and its link has not failed.
+fn is_up(net: &Net, failed: &FailSet, arc: Arc) -> bool
+    ensures { result ≡ is_up net.now failed.now arc }
+{
+    match net.links().get(usize::from(arc.link)) {
+        Some(link) => link.session && !failed.holds(arc.link),
+        None => false,
+    }
+}
+
+// Whether the arc is up, and goes to the router.
+fn is_into(net: &Net, failed: &FailSet, arc: Arc, router: u8) -> bool
+    ensures { result ≡ is_into net.now failed.now arc router }
+{
+    is_up(net, failed, arc) && same_router(receiver_of(net, arc), Some(router))
+}
+
+// What the arc carries of its sender's label.
+fn carried_label(
+    alloc: Global,
+    net: &Net,
+    prefix: Prefix,
+    arc: Arc,
+    labels: &[Option<Route>],
+    sender: Option<u8>,
+) -> Result<Option<Route>, NoMemory>
+    ensures { IfOk result (λ carried. carried ≡ carried_label net.now prefix arc labels.now sender) }
+{
+    let Some(sender) = sender else {
+        return Ok(None);
+    };
+    match label_at(labels, sender) {
+        None => Ok(None),
+        Some(sent) => carry(alloc, net, prefix, arc, sent),
+    }
+}
+
+/// The candidate of a router that comes over the arc, where one does.
+#[tactic(auto, unfolding(crate::specs::Findings::arrival))]
+pub(crate) fn arrival(
+    alloc: Global,
+    net: &Net,
+    prefix: Prefix,
+    failed: &FailSet,
+    labels: &[Option<Route>],
+    router: u8,
+    arc: Arc,
+) -> Result<Option<Route>, NoMemory>
+    ensures { IfOk result (λ candidate. candidate ≡ arrival net.now prefix failed.now labels.now router arc) }
+{
+    if !is_into(net, failed, arc, router) {
+        return Ok(None);
+    }
+    carried_label(alloc, net, prefix, arc, labels, sender_of(net, arc))
+}
+
+// The distance of a router, where it has one.
+fn distance_of(distances: &[Option<u64>], router: u8) -> Option<u64>
+    ensures { result ≡ distance_at distances.now router }
+{
+    *distances.get(usize::from(router))?
+}
+
+/// The candidate of a router that is its local route, where that is one.
+#[tactic(auto, unfolding(crate::specs::Findings::local_candidate))]
+pub(crate) fn local_candidate(
+    alloc: Global,
+    net: &Net,
+    prefix: Prefix,
+    distances: &[Option<u64>],
+    labels: &[Option<Route>],
+    router: u8,
+) -> Result<Option<Route>, NoMemory>
+    requires router { router < length net.now.routers }
+    requires small { (u distance : ℕ) → distance_at distances.now u ≡ Some distance → distance < 2 ^ 32 }
+    ensures { IfOk result (λ candidate. candidate ≡ local_candidate net.now prefix distances.now labels.now router) }
+{
+    if !net.owns(router, &prefix) && is_learned(label_at(labels, router)) {
+        return Ok(None);
+    }
+    local_route(alloc, net, prefix, router, distance_of(distances, router))
+}

@@ -1,0 +1,195 @@
+//! What the arcs of sessions carry.
+
+ghost use Rattle.std.specs.Prelude.{◌≡◌, ◌<◌, IfOk, IfSome, length};
+ghost use Rattle.net_types.specs.Arcs.{from_end, to_end};
+ghost use Rattle.concrete_algebra.specs.Carrying.{carry_gives, community_number, end_sends, end_takes, export_gives, holds_value, import_gives, is_kept_home, is_on, sent_by, sent_med};
+
+use crate::copies::{copy_of, prepended};
+use crate::maps::run_map;
+use net_types::{Arc, Bits64, End, Link, Net, NoMemory, Prefix, Route, Source};
+use std::alloc::Global;
+
+// NO_EXPORT and NO_ADVERTISE of RFC 1997.
+const NO_EXPORT: u32 = 0xFFFF_FF01;
+
+const NO_ADVERTISE: u32 = 0xFFFF_FF02;
+
+// The number of the community of this value.
+fn community_number(net: &Net, value: u32) -> Option<usize>
+    ensures number { result ≡ community_number net.now value }
+    ensures bound { IfSome result (λ number. number < length net.now.communities) }
+{
+    net.communities()
+        .iter()
+        .position(|community| *community == value)
+}
+
+// Whether the community of this value is among those held.
+fn holds_value(net: &Net, value: u32, held: Bits64) -> bool
+    ensures { result ≡ holds_value net.now value held }
+{
+    net.valid();
+    match community_number(net, value) {
+        Some(number) => held.has(number as u8),
+        None => false,
+    }
+}
+
+// Whether a route with these communities is sent to no neighbor.
+fn is_kept_home(net: &Net, held: Bits64) -> bool
+    ensures { result ≡ is_kept_home net.now held }
+{
+    holds_value(net, NO_EXPORT, held) || holds_value(net, NO_ADVERTISE, held)
+}
+
+// The MED that is sent.
+fn sent_med(source: Source, med: u32) -> u32
+    ensures { result ≡ sent_med source med }
+{
+    match source {
+        Source::Local => med,
+        Source::Learned(_) => 0,
+    }
+}
+
+// The route with the sender in front of its path.
+fn sent_by(alloc: Global, sender: u8, route: Route) -> Result<Route, NoMemory>
+    ensures { IfOk result (λ sent. sent ≡ sent_by sender route) }
+{
+    let path = prepended(alloc, sender, 1, route.path.as_slice())?;
+    Ok(Route { path, ..route })
+}
+
+// The end of a link that a direction begins at.
+fn from_end(down: bool, link: &Link) -> End
+    ensures { result ≡ from_end down link.now }
+{
+    if down { link.high } else { link.low }
+}
+
+// The end of a link that a direction goes to.
+fn to_end(down: bool, link: &Link) -> End
+    ensures { result ≡ to_end down link.now }
+{
+    if down { link.low } else { link.high }
+}
+
+// What the beginning of a link's direction sends of a route.
+fn end_sends(
+    alloc: Global,
+    net: &Net,
+    prefix: Prefix,
+    down: bool,
+    link: &Link,
+    route: &Route,
+) -> Result<Option<Route>, NoMemory>
+    ensures { IfOk result (λ sent. sent ≡ end_sends net.now prefix down link.now route.now) }
+{
+    if is_kept_home(net, route.communities) {
+        return Ok(None);
+    }
+    let end = from_end(down, link);
+    let mut own = copy_of(alloc, route)?;
+    own.med = sent_med(route.source, route.med);
+    match run_map(alloc, net, end.router, end.export, prefix, &own)? {
+        None => Ok(None),
+        Some(given) => Ok(Some(sent_by(alloc, end.router, given)?)),
+    }
+}
+
+// Whether the router is on the path.
+fn is_on(router: u8, path: &[u8]) -> bool
+    ensures { result ≡ is_on router path.now }
+{
+    path.iter().any(|hop| router == *hop)
+}
+
+// What the end of a link's direction takes in of a route that was sent.
+fn end_takes(
+    alloc: Global,
+    net: &Net,
+    prefix: Prefix,
+    arc: Arc,
+    link: &Link,
+    route: &Route,
+) -> Result<Option<Route>, NoMemory>
+    ensures { IfOk result (λ taken. taken ≡ end_takes net.now prefix arc link.now route.now) }
+{
+    let end = to_end(arc.down, link);
+    if is_on(end.router, route.path.as_slice()) {
+        return Ok(None);
+    }
+    let mut received = copy_of(alloc, route)?;
+    received.weight = 0;
+    received.preference = 100;
+    match run_map(alloc, net, end.router, end.import, prefix, &received)? {
+        None => Ok(None),
+        Some(given) => Ok(Some(Route {
+            source: Source::Learned(arc),
+            ..given
+        })),
+    }
+}
+
+/// What the sender of an arc sends of its route: nothing where the route holds NO_EXPORT or NO_ADVERTISE
+/// (RFC 1997); else, with MED 0 where it is learned, what the export side gives, with the sender in front of
+/// the path once more (RFC 4271, section 5.1.2). The arc is of a session; where there is no such link,
+/// nothing is sent.
+///
+/// # Errors
+///
+/// [`NoMemory`] where there was none for the route.
+#[tactic(auto, unfolding(crate::specs::Carrying::export_gives))]
+pub fn export(
+    alloc: Global,
+    net: &Net,
+    prefix: Prefix,
+    arc: Arc,
+    route: &Route,
+) -> Result<Option<Route>, NoMemory>
+    ensures { IfOk result (λ sent. sent ≡ export_gives net.now prefix arc route.now) }
+{
+    match net.links().get(usize::from(arc.link)) {
+        None => Ok(None),
+        Some(link) => end_sends(alloc, net, prefix, arc.down, link, route),
+    }
+}
+
+/// What the receiver of an arc takes in of a route that was sent: nothing where the receiver is on the path
+/// (RFC 4271, section 9.1.2); else, with weight 0 and local preference 100, what the import side gives, with
+/// the arc as its source. The arc is of a session; where there is no such link, nothing is taken in.
+///
+/// # Errors
+///
+/// [`NoMemory`] where there was none for the route.
+#[tactic(auto, unfolding(crate::specs::Carrying::import_gives))]
+pub fn import(
+    alloc: Global,
+    net: &Net,
+    prefix: Prefix,
+    arc: Arc,
+    route: &Route,
+) -> Result<Option<Route>, NoMemory>
+    ensures { IfOk result (λ taken. taken ≡ import_gives net.now prefix arc route.now) }
+{
+    match net.links().get(usize::from(arc.link)) {
+        None => Ok(None),
+        Some(link) => end_takes(alloc, net, prefix, arc, link, route),
+    }
+}
+
+/// What an arc carries of its sender's route: the import of its export.
+pub(crate) fn carry(
+    alloc: Global,
+    net: &Net,
+    prefix: Prefix,
+    arc: Arc,
+    route: &Route,
+) -> Result<Option<Route>, NoMemory>
+    ensures { IfOk result (λ carried. carried ≡ carry_gives net.now prefix arc route.now) }
+{
+    match export(alloc, net, prefix, arc, route)? {
+        None => Ok(None),
+        Some(sent) => import(alloc, net, prefix, arc, &sent),
+    }
+}

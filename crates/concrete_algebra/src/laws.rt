@@ -1,0 +1,28 @@
+//! What is true of every network, stated over definitions: each law is the contract of a function that
+//! does nothing.
+
+ghost use Rattle.concrete_algebra.specs.Chains.{CandidatePathsAreShort, ChainsAreShort, LabelPathsAreShort, LabelsHaveChains, PathsAreChains, PathsAreHeld};
+ghost use Rattle.concrete_algebra.specs.Laws.{NetworksRoute, DeletesAreNamed};
+
+/// The problem of every network is a stable routing problem: over an arc a path grows by the sender, once
+/// and at most 10 times more, and by the receiver, at most 10 times, who was not on it.
+pub fn law_of_routing()
+    ensures { NetworksRoute }
+{}
+
+/// A community list deletes a community exactly where its first entry that names it is a permit.
+pub fn law_of_deletes()
+    ensures { DeletesAreNamed }
+{}
+
+/// Each route of a stable labelling came over a chain of distinct routers from one that originates it; each
+/// router on its path holds a route; and paths, also those of candidates that nobody holds, have at most 21
+/// entries for each router.
+pub fn law_of_chains()
+    ensures chains { LabelsHaveChains }
+    ensures short { ChainsAreShort }
+    ensures paths { PathsAreChains }
+    ensures held { PathsAreHeld }
+    ensures labels { LabelPathsAreShort }
+    ensures candidates { CandidatePathsAreShort }
+{}

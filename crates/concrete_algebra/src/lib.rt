@@ -1,0 +1,30 @@
+//! What a router does with a route, and when a labelling is stable.
+//!
+//! Decides: what route maps, exports and imports make of a route, what a router originates, which of two
+//! routes is better, and the least router where a labelling breaks. What they make of a route that is
+//! known only in part, `abstract_maps` decides.
+//! Stands on: `net_types` alone. It takes memory for routes, and keeps nothing between calls.
+//! Promises: each answer is the one of `specs/`, for every network, and the laws of `specs/Laws.antt` say
+//! how a path grows from router to router. Not: that a stable labelling exists.
+#![tactic(auto)]
+
+mod candidates;
+mod carrying;
+mod copies;
+mod findings;
+mod laws;
+mod local_routes;
+mod maps;
+mod matches;
+mod orders;
+mod sets;
+mod stability;
+#[cfg(test)]
+mod tests;
+
+pub use carrying::{export, import};
+pub use laws::{law_of_chains, law_of_deletes, law_of_routing};
+pub use local_routes::local_route;
+pub use maps::run_map;
+pub use orders::better;
+pub use stability::{StableAnswer, check_stable};

@@ -1,0 +1,7 @@
+pub mod CommunityLemmas
+pub mod LabellingLemmas
+pub mod LinkLemmas
+pub mod OptionLemmas
+pub mod ValueLemmas
+pub mod FactLemmas
+pub mod TriangleLemmas

@@ -1,0 +1,26 @@
+-- What a shelf over the folders of the machine makes of the machine's answers: a value is handed on, want of memory
+-- is no fault, and a path that is not there is absent only where it was to be opened.
+use Rattle.std.specs.Prelude.{◌≡◌, ◌≢◌, Result, Ok, Err}
+use Rattle.std.specs.IoError.{error_kind}
+use Rattle.std.specs.declared.io.Error.{Error}
+use Rattle.std.specs.declared.io.ErrorKind.TheVariants.{NotFound, OutOfMemory}
+use Rattle.outside.specs.declared.shelf.ShelfError.{ShelfError}
+use Rattle.outside.specs.declared.shelf.ShelfError.TheVariants.{Failed, Absent, NoMemory}
+
+-- the answer where a path was opened
+abbrev pub Opens : {A : Type 0} → Result A Error → Result A ShelfError → Type 0
+Opens (Ok a) (Ok b) = b ≡ a
+Opens (Ok a) (Err refusal) = ⊥
+Opens (Err e) (Ok b) = ⊥
+Opens (Err e) (Err Failed) = (error_kind e ≢ NotFound) × (error_kind e ≢ OutOfMemory)
+Opens (Err e) (Err Absent) = error_kind e ≡ NotFound
+Opens (Err e) (Err NoMemory) = error_kind e ≡ OutOfMemory
+
+-- the answer where what was opened is read
+abbrev pub Gives : {A : Type 0} → Result A Error → Result A ShelfError → Type 0
+Gives (Ok a) (Ok b) = b ≡ a
+Gives (Ok a) (Err refusal) = ⊥
+Gives (Err e) (Ok b) = ⊥
+Gives (Err e) (Err Failed) = error_kind e ≢ OutOfMemory
+Gives (Err e) (Err Absent) = ⊥
+Gives (Err e) (Err NoMemory) = error_kind e ≡ OutOfMemory

@@ -1,0 +1,3 @@
+pub mod DocumentLemmas
+pub mod TableLemmas
+pub mod Gathered
