@@ -8,3 +8,4 @@ pub mod GrowthLemmas
 pub mod ArcLemmas
 pub mod LocalLemmas
 pub mod PreferringLemmas
+pub mod OneRouterLemmas

@@ -5,6 +5,7 @@ use net_types::{List, NoMemory, SourceFile, Text};
 use outside::{MemShelf, MemSink};
 use std::alloc::Global;
 
+mod bundles;
 mod folders;
 mod limits;
 mod memory;

@@ -3,12 +3,13 @@
 ghost use Rattle.std.specs.Prelude.{◌≡◌};
 ghost use Rattle.abstract_route.specs.Rows.{single};
 
-use crate::maps::{map_row, sure_entries};
-use abstract_route::{Range, Row};
-use net_types::{
-    Bits64, List, NetCommunityEntry, NetCommunityList, NetMapEntry, NetSetCommunity, NetSets,
-    NoMemory, Policy, Prefix, PrefixEntry, PrefixList, Router, Text,
-};
+use super::one_router::{Change, network};
+use super::preferring::is_in;
+use crate::maps::sure;
+use crate::run_map_abs;
+use abstract_route::{BOTTOM, Range, Row};
+use concrete_algebra::run_map;
+use net_types::{Bits64, List, NoMemory, Origin, Policy, Prefix, Route, Source};
 use std::alloc::Global;
 use std::process::Abort;
 use std::test::Fail;
@@ -39,160 +40,266 @@ fn row_of(has: u64, lacks: u64) -> Row
     }
 }
 
-// A router with the community list 0, which permits community 2, and the prefix list 0, which permits
-// 10.9.0.0/24.
-fn router(alloc: Global) -> Result<Router, NoMemory> {
-    let prefix = PrefixEntry {
-        seq: 5,
-        permit: true,
-        prefix: Prefix::masked(0x0A09_0000, 24),
-        least: 24,
-        most: 24,
-    };
-    let community = NetCommunityEntry {
-        seq: 5,
-        permit: true,
-        values: Bits64::EMPTY.with(2),
-    };
-    let mut prefix_lists = List::new(alloc);
-    prefix_lists.push(PrefixList {
-        name: Text::from_str(alloc, "ours")?,
-        entries: List::from_slice(alloc, &[prefix])?,
-    })?;
-    let mut community_lists = List::new(alloc);
-    community_lists.push(NetCommunityList {
-        name: Text::from_str(alloc, "marked")?,
-        entries: List::from_slice(alloc, &[community])?,
-    })?;
-    Ok(Router {
-        host: Text::from_str(alloc, "a")?,
-        asn: None,
-        owned: List::new(alloc),
-        connected: Policy::Closed,
-        ospf: Policy::Closed,
-        prefix_lists,
-        community_lists,
-        maps: List::new(alloc),
-    })
+// A local route that holds these communities.
+fn route_of(alloc: Global, held: u64) -> Route {
+    Route {
+        weight: 32768,
+        preference: 100,
+        path: List::new(alloc),
+        origin: Origin::Igp,
+        med: 0,
+        communities: Bits64::from_word(held),
+        source: Source::Local,
+    }
 }
 
-const NO_SETS: NetSets = NetSets {
-    weight: None,
-    preference: None,
-    med: None,
-    origin: None,
-    delete: None,
-    community: NetSetCommunity::Keep,
-    prepend: 0,
-};
-
-// A case of a map of two entries: the first asks for the community, or for the prefix, and sets local
-// preference 200; the second sets 50 for all routes.
-struct Case<'a> {
-    name: &'a str,
+// What a map makes of a row: the ends of two ranges, and four sets as words.
+struct Known {
+    preference: (u64, u64),
+    length: (u64, u64),
     has: u64,
     lacks: u64,
+    may: u64,
+    must: u64,
+}
+
+// A case of the map of router a, which has number 0.
+struct Case {
+    name: &'static str,
+    has: u64,
+    lacks: u64,
+    /// What routes of the row hold.
+    held: &'static [u64],
     permit: bool,
-    prefix: u32,
-    preference: (u64, u64),
+    change: Change,
+    /// Whether the prefix is the one that the prefix list permits.
+    ours: bool,
+    wanted: Option<Known>,
     sure: bool,
 }
 
-const OURS: u32 = 0x0A09_0000;
+const ALL: u64 = u64::MAX;
 
-const CASES: [Case; 6] = [
-    Case {
-        name: "no route matches the first entry",
-        has: 0,
-        lacks: u64::MAX,
-        permit: true,
-        prefix: OURS,
-        preference: (50, 50),
-        sure: true,
-    },
-    Case {
-        name: "every route matches it",
-        has: 4,
-        lacks: 0xFFFF_FFFF_FFFF_FFFB,
-        permit: true,
-        prefix: OURS,
+const ALL_BUT_0: u64 = 0xFFFF_FFFF_FFFF_FFFE;
+
+const ALL_BUT_1: u64 = 0xFFFF_FFFF_FFFF_FFFD;
+
+const ALL_BUT_BOTH: u64 = 0xFFFF_FFFF_FFFF_FFFC;
+
+// Every route holds community 0.
+const HELD: Case = Case {
+    name: "every route matches the first entry",
+    has: 1,
+    lacks: ALL_BUT_0,
+    held: &[1],
+    permit: true,
+    change: Change::Preference,
+    ours: true,
+    wanted: Some(Known {
         preference: (200, 200),
-        sure: true,
-    },
-    Case {
-        name: "some may match it",
-        has: 4,
-        lacks: u64::MAX,
-        permit: true,
-        prefix: OURS,
+        ..AS_HELD
+    }),
+    sure: true,
+};
+
+const AS_HELD: Known = Known {
+    preference: (100, 100),
+    length: (0, 0),
+    has: 1,
+    lacks: ALL_BUT_0,
+    may: 0,
+    must: 0,
+};
+
+// A route may hold community 0, or lack it.
+const OPEN: Case = Case {
+    name: "some may match it",
+    lacks: ALL,
+    held: &[0, 1],
+    wanted: Some(Known {
         preference: (50, 200),
-        sure: true,
+        ..AS_OPEN
+    }),
+    ..HELD
+};
+
+const AS_OPEN: Known = Known {
+    lacks: ALL,
+    ..AS_HELD
+};
+
+static CASES: [Case; 12] = [
+    HELD,
+    OPEN,
+    Case {
+        name: "no route matches it",
+        has: 0,
+        held: &[0],
+        wanted: Some(Known {
+            preference: (50, 50),
+            has: 0,
+            ..AS_OPEN
+        }),
+        ..OPEN
     },
     Case {
         name: "some may be denied",
-        has: 4,
-        lacks: u64::MAX,
         permit: false,
-        prefix: OURS,
-        preference: (50, 50),
+        wanted: Some(Known {
+            preference: (50, 50),
+            ..AS_OPEN
+        }),
         sure: false,
+        ..OPEN
     },
     Case {
         name: "every route is denied",
-        has: 4,
-        lacks: 0xFFFF_FFFF_FFFF_FFFB,
         permit: false,
-        prefix: OURS,
-        preference: (u64::MAX, 0),
+        wanted: None,
         sure: false,
+        ..HELD
     },
     Case {
         name: "the prefix is another",
-        has: 4,
-        lacks: 0xFFFF_FFFF_FFFF_FFFB,
         permit: false,
-        prefix: 0x0A0A_0000,
-        preference: (50, 50),
-        sure: true,
+        ours: false,
+        wanted: Some(Known {
+            preference: (50, 50),
+            ..AS_HELD
+        }),
+        ..HELD
+    },
+    Case {
+        name: "the community is deleted",
+        change: Change::Delete,
+        wanted: Some(Known {
+            has: 0,
+            lacks: ALL,
+            ..AS_HELD
+        }),
+        ..HELD
+    },
+    Case {
+        name: "another is added",
+        change: Change::Add,
+        wanted: Some(Known {
+            has: 3,
+            lacks: ALL_BUT_BOTH,
+            ..AS_HELD
+        }),
+        ..HELD
+    },
+    Case {
+        name: "another stands in its place",
+        change: Change::Replace,
+        wanted: Some(Known {
+            has: 2,
+            lacks: ALL_BUT_1,
+            ..AS_HELD
+        }),
+        ..HELD
+    },
+    Case {
+        name: "another may stand in its place",
+        change: Change::Replace,
+        wanted: Some(Known {
+            preference: (50, 100),
+            has: 3,
+            ..AS_OPEN
+        }),
+        ..OPEN
+    },
+    Case {
+        name: "the router is put in front twice",
+        change: Change::Prepend,
+        wanted: Some(Known {
+            length: (2, 2),
+            may: 1,
+            must: 1,
+            ..AS_HELD
+        }),
+        ..HELD
+    },
+    Case {
+        name: "the router may be put in front",
+        change: Change::Prepend,
+        wanted: Some(Known {
+            preference: (50, 100),
+            length: (0, 2),
+            may: 1,
+            ..AS_OPEN
+        }),
+        ..OPEN
     },
 ];
 
-fn entries_of(permit: bool) -> [NetMapEntry; 2] {
-    let first = NetMapEntry {
-        seq: 10,
-        permit,
-        prefixes: Some(0),
-        communities: Some(0),
-        sets: NetSets {
-            preference: Some(200),
-            ..NO_SETS
+fn range((low, high): (u64, u64)) -> Range {
+    Range { low, high }
+}
+
+fn wanted_of(case: &Case) -> Row {
+    match &case.wanted {
+        None => BOTTOM,
+        Some(known) => Row {
+            preference: range(known.preference),
+            length: range(known.length),
+            may: Bits64::from_word(known.may),
+            must: Bits64::from_word(known.must),
+            ..row_of(known.has, known.lacks)
         },
-    };
-    let second = NetMapEntry {
-        seq: 20,
-        permit: true,
-        prefixes: None,
-        communities: None,
-        sets: NetSets {
-            preference: Some(50),
-            ..NO_SETS
-        },
-    };
-    [first, second]
+    }
+}
+
+fn prefix_of(case: &Case) -> Prefix {
+    let address = if case.ours { 0x0A09_0000 } else { 0x0A0A_0000 };
+    Prefix::masked(address, 24)
 }
 
 #[test]
 fn maps_of_what_may_match(rt: HostRuntime) -> Result<(), Fail> {
-    let router = router(rt.alloc())?;
+    let policy = Policy::Map(0);
     for case in &CASES {
-        let row = row_of(case.has, case.lacks);
-        let entries = entries_of(case.permit);
-        let prefix = Prefix::masked(case.prefix, 24);
-        let mapped = map_row(&router, 0, &prefix, &entries, &row);
-        let preference = (mapped.preference.low, mapped.preference.high);
-        assert_eq!(rt; preference, case.preference, "{}", case.name);
-        let sure = sure_entries(&router, &prefix, &entries, &row);
-        assert_eq!(rt; sure, case.sure, "{}", case.name);
+        let net = network(rt.alloc(), case.permit, case.change)?;
+        let before = row_of(case.has, case.lacks);
+        let after = run_map_abs(&net, 0, policy, prefix_of(case), &before);
+        assert_eq!(rt; after, wanted_of(case), "{}", case.name);
+        let is_sure = sure(&net, 0, policy, &prefix_of(case), &before);
+        assert_eq!(rt; is_sure, case.sure, "{}", case.name);
+    }
+    Ok(())
+}
+
+// Whether what the map gives of one route fits what it makes of the row: a route has to be in that row, and
+// there has to be one where the map surely lets each route through.
+fn fits(given: Option<&Route>, after: &Row, is_sure: bool) -> bool {
+    match given {
+        None => !is_sure,
+        Some(route) => is_in(after, route),
+    }
+}
+
+// Whether each route of the case is in its row, and what the map gives of it fits.
+fn all_fit(alloc: Global, case: &Case) -> Result<bool, NoMemory> {
+    let net = network(alloc, case.permit, case.change)?;
+    let policy = Policy::Map(0);
+    let prefix = prefix_of(case);
+    let before = row_of(case.has, case.lacks);
+    let after = run_map_abs(&net, 0, policy, prefix, &before);
+    let is_sure = sure(&net, 0, policy, &prefix, &before);
+    for &held in case.held {
+        let route = route_of(alloc, held);
+        let given = run_map(alloc, &net, 0, policy, prefix, &route)?;
+        if !is_in(&before, &route) || !fits(given.as_ref(), &after, is_sure) {
+            return Ok(false);
+        }
+    }
+    Ok(true)
+}
+
+#[test]
+fn what_maps_give_of_routes_fits_the_rows(rt: HostRuntime) -> Result<(), Fail> {
+    for case in &CASES {
+        assert!(rt; all_fit(rt.alloc(), case)?, "{}", case.name);
     }
     Ok(())
 }

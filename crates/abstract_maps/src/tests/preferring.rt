@@ -224,8 +224,8 @@ fn the_way_back_is_open_and_brings_nothing(rt: HostRuntime) -> Result<(), Fail> 
     Ok(())
 }
 
-// Whether the route is in the row.
-fn is_in(row: &Row, route: &Route) -> bool {
+/// Whether the route is in the row.
+pub(super) fn is_in(row: &Row, route: &Route) -> bool {
     route.path.as_slice().iter().all(|&router| router < 64) && contains(row, route)
 }
 

@@ -21,7 +21,21 @@ pub const LINE: [File<'static>; 6] = [
     ("new/r3.conf", THIRD),
 ];
 
-/// The same, with files that are no configurations of these folders.
+// The first router of the line, speaking BGP too.
+const FIRST_SPEAKING: &str =
+    "hostname r1\ninterface eth0\n ip address 10.0.0.1/30\n ip ospf area 0\nrouter ospf\nrouter bgp 65001\n bgp router-id 1.1.1.1\n";
+
+/// The line, whose first router speaks BGP too.
+pub const LINE_SPEAKING: [File<'static>; 6] = [
+    ("old/r1.conf", FIRST_SPEAKING),
+    ("old/r2.conf", SECOND),
+    ("old/r3.conf", THIRD),
+    ("new/r1.conf", FIRST_SPEAKING),
+    ("new/r2.conf", SECOND),
+    ("new/r3.conf", THIRD),
+];
+
+/// The line, with files that are no configurations of these folders.
 pub const LINE_AMONG_OTHERS: [File<'static>; 9] = [
     ("old/README", "no line of a router"),
     ("old/r1.conf.bak", "neither"),

@@ -1,6 +1,6 @@
 //! Applicability, and one case of each refusal.
 
-use super::folders::{FROM_NOTHING, LINE, OVERLAPPING, PROPERTIES};
+use super::folders::{FROM_NOTHING, LINE, LINE_SPEAKING, OVERLAPPING, PROPERTIES};
 use super::{CHECK, File, ending_of, ends};
 use std::alloc::Global;
 
@@ -113,6 +113,8 @@ fn refused_bundles(rt: HostRuntime) {
 
 #[test]
 fn bgp_not_yet(rt: HostRuntime) {
+    let line = ending_of(rt.alloc(), &CHECK, &LINE_SPEAKING, &PROPERTIES, &[], &[]);
+    assert!(rt; ends(line, 2, "refused: base: NoBgpYet r1\n"));
     let speaking: [File<'_>; 4] = [
         (
             "old/r1.conf",
