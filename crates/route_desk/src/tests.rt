@@ -108,8 +108,9 @@ fn line_of_three(rt: HostRuntime) {
 fn usage(rt: HostRuntime) {
     let usage =
         "usage: check BASE NEW PROPS [WORKERS] | stable BUNDLE LABELS | serve DB PORT COUNT USERS [WORKERS] | gen N [WORKERS]\n";
-    let cases: [&[&str]; 7] = [
+    let cases: [&[&str]; 8] = [
         &[],
+        &["check", "old", "-new", "props"],
         &["stable", "net"],
         &["stable", "net", "-labels"],
         &["check", "old", "new"],

@@ -36,8 +36,9 @@ pub const LINE_SPEAKING: [File<'static>; 6] = [
 ];
 
 /// The line, with files that are no configurations of these folders.
-pub const LINE_AMONG_OTHERS: [File<'static>; 9] = [
+pub const LINE_AMONG_OTHERS: [File<'static>; 10] = [
     ("old/README", "no line of a router"),
+    ("old/xconf", "neither"),
     ("old/r1.conf.bak", "neither"),
     ("new/deeper/r9.conf", "hostname r9"),
     ("old/r1.conf", FIRST),

@@ -40,6 +40,26 @@ fn a_router_without_a_way(rt: HostRuntime) {
     assert!(rt; ends(run, 1, wanted));
 }
 
+#[test]
+fn two_properties_of_one_prefix(rt: HostRuntime) {
+    let apart: [File<'_>; 3] = [
+        ("old/", ""),
+        ("new/r1.conf", "hostname r1\nrouter ospf\n"),
+        (
+            "new/r3.conf",
+            "hostname r3\ninterface lo\n ip address 10.9.0.3/32\n ip ospf area 0\nrouter ospf\n",
+        ),
+    ];
+    let both: [File<'_>; 1] = [(
+        "props",
+        "[[property]]\nname = \"p1\"\nkind = \"reach\"\nrouter = \"r3\"\nprefix = \"10.9.0.3/32\"\nfailures = 0\n[[property]]\nname = \"p2\"\nkind = \"reach\"\nrouter = \"r1\"\nprefix = \"10.9.0.3/32\"\nfailures = 0\n",
+    )];
+    let run = ending_of(rt.alloc(), &CHECK, &apart, &both, &[], &[]);
+    let wanted =
+        "route certificate report, version 1\nbase: routers 0, links 0, solved 0 of 0\nnew: routers 2, links 0, solved 1 of 1\np1: base not applicable by unknown router; new certified\np2: base not applicable by unknown router; new not certified at {} by no sure route at r1\nA certified property holds in every stable solution. That one exists is not claimed.\n";
+    assert!(rt; ends(run, 1, wanted));
+}
+
 // Whether a check of these folders, which asks for nothing, is refused with this line.
 fn refuses(alloc: Global, files: &[File<'_>], line: &str) -> bool {
     ends(
