@@ -1,4 +1,3 @@
-pub mod CommunityLemmas
 pub mod GrammarLemmas
 pub mod MapLemmas
 pub mod NameLemmas

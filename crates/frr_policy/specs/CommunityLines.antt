@@ -3,9 +3,10 @@ use Rattle.std.specs.Prelude.{ℕ, List, [], ◌∷◌, codes, map, find, Option
 use Rattle.std.specs.Option.{option_map_or}
 use Rattle.net_types.specs.declared.config.CommunityList.{CommunityList}
 use Rattle.net_types.specs.declared.config.CommunityEntry.{CommunityEntry}
+use Rattle.net_types.specs.Communities.{community_of}
 use Rattle.net_types.specs.Order.{same_text}
 use Rattle.frr_policy.specs.declared.refusals.LineRefusal.{LineRefusal}
-use Rattle.frr_policy.specs.Values.{name_of, list_number_of, community_of}
+use Rattle.frr_policy.specs.Values.{name_of, list_number_of}
 use Rattle.frr_policy.specs.Grammar.{first, and_then, leading, some_alone}
 use Rattle.frr_policy.specs.Answers.{or_bad_value, then_answer}
 use Rattle.frr_policy.specs.Lists.{FrontValue, front_of, new_number}

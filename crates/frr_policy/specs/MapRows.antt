@@ -4,12 +4,13 @@ use Rattle.net_types.specs.declared.config.MapEntry.{MapEntry}
 use Rattle.net_types.specs.declared.config.Sets.{Sets}
 use Rattle.net_types.specs.declared.config.SetCommunity.{SetCommunity}
 use Rattle.net_types.specs.declared.config.SetCommunity.TheVariants.{Keep, Replace, Add, Clear}
+use Rattle.net_types.specs.Communities.{community_of}
 use Rattle.net_types.specs.NetFacts.{IsWord}
 use Rattle.net_types.specs.ConfigFacts.{IsSetCommunity}
 use Rattle.net_types.specs.Order.{same_text}
 use Rattle.frr_policy.specs.declared.refusals.LineRefusal.{LineRefusal}
 use Rattle.frr_policy.specs.declared.refusals.LineRefusal.TheVariants.{BadValue, Repeated}
-use Rattle.frr_policy.specs.Values.{name_of, u32_of, origin_of, community_of, positive_of}
+use Rattle.frr_policy.specs.Values.{name_of, u32_of, origin_of, positive_of}
 use Rattle.frr_policy.specs.Grammar.{first, and_then, one, leading, some_alone}
 
 -- a value that an entry takes once: the rest of the line, whether the entry has such a value, and the entry

@@ -1,9 +1,8 @@
 -- The values of a line: what one of its words says.
-use Rattle.std.specs.Prelude.{ℕ, ◌+◌, ◌*◌, Bool, true, false, List, [], ◌∷◌, codes, Option, Some, None, option_map, if◌then◌else◌}
+use Rattle.std.specs.Prelude.{ℕ, Bool, true, false, List, codes, Option, Some, None, option_map, if◌then◌else◌}
 use Rattle.net_types.specs.declared.config.Origin.{Origin}
 use Rattle.net_types.specs.declared.config.Origin.TheVariants.{Igp, Egp, Incomplete}
 use Rattle.net_types.specs.Names.{is_name}
-use Rattle.net_types.specs.Cut.{parts}
 use Rattle.net_types.specs.Numerals.{number_in}
 use Rattle.net_types.specs.Addresses.{interface_of}
 use Rattle.net_types.specs.PrefixValue.{PrefixValue}
@@ -39,24 +38,6 @@ origin_of word =
 -- NUM 1 to 99: the number of a list, which is its name
 abbrev pub list_number_of : List ℕ → Option ℕ
 list_number_of word = number_in 1 99 word
-
--- half of a community: NUM 0 to 65535
-abbrev pub half_of : List ℕ → Option ℕ
-half_of word = number_in 0 65535 word
-
-abbrev pub of_halves : Option ℕ → Option ℕ → Option ℕ
-of_halves (Some first) (Some second) = Some (first * 65536 + second)
-of_halves _ _ = None
-
-abbrev pub community_of_parts : List (List ℕ) → Option ℕ
-community_of_parts (first ∷ second ∷ []) = of_halves (half_of first) (half_of second)
-community_of_parts _ = None
-
--- COMM: two halves joined by `:`, or the name of a well-known community (RFC 1997)
-abbrev pub community_of : List ℕ → Option ℕ
-community_of word =
-    if same_text (codes "no-export") word then Some 0xFFFFFF01 else
-    (if same_text (codes "no-advertise") word then Some 0xFFFFFF02 else community_of_parts (parts 58 word))
 
 -- NUM 0 to 32: the length of a prefix
 abbrev pub length_of : List ℕ → Option ℕ

@@ -2,7 +2,7 @@
 
 ghost use Rattle.std.specs.Prelude.{◌≡◌, ◌^◌, ◌<◌, ◌≤◌, ◌∷◌, [], All, IfOk, IfSome, length, map};
 ghost use Rattle.net_types.specs.ConfigFacts.{IsCommunityEntry};
-ghost use Rattle.frr_policy.specs.Values.{community_of};
+ghost use Rattle.net_types.specs.Communities.{community_of};
 ghost use Rattle.frr_policy.specs.Grammar.{Took, TookIfThere, first, leading};
 ghost use Rattle.frr_policy.specs.Answers.{Answers};
 ghost use Rattle.frr_policy.specs.Lists.{HasRoom};
@@ -12,8 +12,8 @@ use crate::LineRefusal;
 use crate::blanks::{Words, is_word};
 use crate::fronts::{Front, take_front, take_name};
 use crate::numbering::{Numbered, new_number};
-use crate::values::{Name, community_of};
-use net_types::{CommunityEntry, CommunityList, List, Text};
+use crate::values::Name;
+use net_types::{CommunityEntry, CommunityList, List, Text, read_community};
 use std::alloc::{AllocError, Global};
 
 // COMM, from the front of the words, if it stands there.
@@ -22,7 +22,7 @@ fn take_community(words: &mut Words<'_>) -> Option<u32>
     ensures fits { IfSome result (λ c. c < 2 ^ 32) }
 {
     let mut ahead = words.again();
-    let community = community_of(ahead.next()?)?;
+    let community = read_community(ahead.next()?)?;
     *words = ahead;
     Some(community)
 }

@@ -1,11 +1,10 @@
 //! What one word of a line says.
 
 ghost use Rattle.std.specs.Prelude.{◌≡◌, ◌≤◌, IfOk, IfSome, option_map};
-ghost use Rattle.net_types.specs.Cut.{parts};
-ghost use Rattle.frr_policy.specs.Values.{name_of, action_of, positive_of, u32_of, map_number_of, origin_of, list_number_of, half_of, community_of, community_of_parts, length_of, masked_prefix_of};
+ghost use Rattle.frr_policy.specs.Values.{name_of, action_of, positive_of, u32_of, map_number_of, origin_of, list_number_of, length_of, masked_prefix_of};
 
 use crate::blanks::is_word;
-use net_types::{Origin, Prefix, Text, cut, is_name, read_interface, read_number};
+use net_types::{Origin, Prefix, Text, is_name, read_interface, read_number};
 use std::alloc::{AllocError, Global};
 use std::marker::Model;
 
@@ -105,43 +104,6 @@ pub(crate) fn masked_prefix_of(word: &[u8]) -> Option<Prefix>
 {
     let (_address, prefix) = read_interface(word)?;
     Some(prefix)
-}
-
-fn half_of(word: &[u8]) -> Option<u32>
-    ensures value { result ≡ half_of word.now }
-    ensures fits { IfSome result (λ half. half ≤ 65535) }
-{
-    match read_number(word, 0, 65_535) {
-        Some(half) => Some(half as u32),
-        None => None,
-    }
-}
-
-// Two halves joined by `:`.
-fn pair_of(word: &[u8]) -> Option<u32>
-    ensures { result ≡ community_of_parts (parts 58 word.now) }
-{
-    let (first, second) = cut(word, b':')?;
-    if let Some((_second, _third)) = cut(second, b':') {
-        return None;
-    }
-    let high = half_of(first)?;
-    let low = half_of(second)?;
-    Some(high * 65_536 + low)
-}
-
-/// COMM: two numbers from 0 to 65,535 joined by `:`, of which the first counts 65,536 times, or the name
-/// of a well-known community (RFC 1997).
-pub(crate) fn community_of(word: &[u8]) -> Option<u32>
-    ensures { result ≡ community_of word.now }
-{
-    if is_word(b"no-export", word) {
-        Some(0xFFFF_FF01)
-    } else if is_word(b"no-advertise", word) {
-        Some(0xFFFF_FF02)
-    } else {
-        pair_of(word)
-    }
 }
 
 /// A number from 0 to 4,294,967,295.

@@ -1,4 +1,3 @@
-pub mod CommunityLemmas
 pub mod LabellingLemmas
 pub mod LinkLemmas
 pub mod OptionLemmas

@@ -15,7 +15,8 @@ use Rattle.net_types.specs.Sets.{has}
 use Rattle.net_types.proofs.SetLemmas.{has_union, bit_from}
 use Rattle.toml_fields.specs.Fields.{within, integer_at, text_at, array_at}
 use Rattle.toml_fields.specs.Tables.{each_of}
-use Rattle.label_file.specs.Communities.{place_of, community_of, community_in, with_number, set_of}
+use Rattle.net_types.specs.Communities.{community_of}
+use Rattle.label_file.specs.Communities.{place_of, community_in, with_number, set_of}
 use Rattle.label_file.specs.Values.{router_of, router_at, word_at, hop_of, if_short, path_in, path_at, member_of, communities_in, communities_at}
 use Rattle.label_file.proofs.OptionLemmas.{IfSome-test, IfSome-and_then, IfSome-behind, IfSome-map, IfSome-each_of}
 

@@ -2,3 +2,4 @@ pub mod AddressLemmas
 pub mod CutLemmas
 pub mod MaskLemmas
 pub mod SetLemmas
+pub mod CommunityLemmas

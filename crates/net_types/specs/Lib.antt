@@ -13,6 +13,7 @@ pub mod FailSets
 pub mod NetValue
 pub mod Owners
 pub mod NetFacts
+pub mod Communities
 pub mod Arcs
 pub mod Distance
 pub mod Better

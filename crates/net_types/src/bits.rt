@@ -109,3 +109,7 @@ impl Bits64 {
         self.0 & other.0 == self.0
     }
 }
+
+const _: () = prove!(Bits64::EMPTY.0 == 0);
+
+const _: () = prove!(Bits64::FULL.0 == u64::MAX);

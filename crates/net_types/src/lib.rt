@@ -11,6 +11,7 @@ mod address_texts;
 mod addresses;
 mod arcs;
 mod bits;
+mod communities;
 mod config;
 mod cuts;
 mod fail_sets;
@@ -30,6 +31,7 @@ pub use address_texts::{address_text, prefix_text};
 pub use addresses::{read_address, read_interface};
 pub use arcs::Arc;
 pub use bits::Bits64;
+pub use communities::read_community;
 pub use config::{
     BgpConfig, CommunityEntry, CommunityList, Interface, MapEntry, Neighbor, Origin, PrefixEntry,
     PrefixList, Redistribute, RouteMap, RouterConfig, SetCommunity, Sets, SourceFile,

@@ -1,6 +1,6 @@
 use Rattle.std.proofs.Common.{◌<◌, ◌^◌}
 use Rattle.std.proofs.lemmas.List.Elements.{All-push, All-same}
-use Rattle.frr_policy.specs.Values.{community_of}
+use Rattle.net_types.specs.Communities.{community_of}
 use Rattle.frr_policy.proofs.GrammarLemmas.{leading_step, leading_end}
 use Rattle.frr_policy.proofs.community_lines.take_communities.Goals as goal
 

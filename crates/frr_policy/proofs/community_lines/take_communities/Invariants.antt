@@ -1,5 +1,5 @@
 use Rattle.std.proofs.Common.{◌≡◌, ◌^◌, ◌<◌, All, length}
-use Rattle.frr_policy.specs.Values.{community_of}
+use Rattle.net_types.specs.Communities.{community_of}
 use Rattle.frr_policy.specs.Grammar.{leading, values_before}
 use Rattle.frr_policy.proofs.community_lines.take_communities.Given as goal
 

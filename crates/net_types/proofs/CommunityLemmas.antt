@@ -2,7 +2,7 @@
 use Rattle.std.proofs.Common.{ℕ, ◌≡◌, List, ◌∷◌, None, ap, ◌∙◌, sym}
 use Rattle.net_types.specs.Cut.{parts}
 use Rattle.net_types.proofs.CutLemmas.{first_part}
-use Rattle.frr_policy.specs.Values.{community_of_parts}
+use Rattle.net_types.specs.Communities.{community_of_parts}
 
 pub three_parts : (text a r b s : List ℕ) → parts 58 text ≡ a ∷ parts 58 r → parts 58 r ≡ b ∷ parts 58 s → None ≡ community_of_parts (parts 58 text)
 three_parts text a r b s e f =
