@@ -18,3 +18,4 @@ pub mod Arcs
 pub mod Distance
 pub mod Better
 pub mod ConfigFacts
+pub mod Laws

@@ -15,6 +15,7 @@ mod communities;
 mod config;
 mod cuts;
 mod fail_sets;
+mod laws;
 mod lists;
 mod names;
 mod network;
@@ -38,6 +39,7 @@ pub use config::{
 };
 pub use cuts::cut;
 pub use fail_sets::FailSet;
+pub use laws::{law_of_addresses, law_of_better, law_of_prefixes, law_of_steps};
 pub use lists::List;
 pub use names::{is_host, is_name};
 pub use network::{

@@ -1,0 +1,39 @@
+//! What is true of the words of the project, stated over definitions: each law is the contract of a
+//! function that does nothing.
+
+ghost use Rattle.net_types.specs.Laws.{AddressesLieInTheirSubnets, CoversEachAddress, OverlapsAtAnAddress, SamePrefixIsOne, PrefixesAreApart, OnePrefixIsFirst, EarlierIsEarlier, CoveringComesFirst, GreaterWeightWins, GreaterPreferenceWins, LocalWins, ShorterPathWins, LowerOriginWins, LowerMedWins, OthersTie, OneIsBetter, BetterGoesOn};
+
+/// A prefix is a set of addresses: it covers another where it holds each address of the other, and two
+/// overlap where they share one.
+pub fn law_of_addresses()
+    ensures subnets { AddressesLieInTheirSubnets }
+    ensures covers { CoversEachAddress }
+    ensures overlaps { OverlapsAtAnAddress }
+{}
+
+/// Prefixes have one order, in which a prefix comes before those that it covers.
+pub fn law_of_prefixes()
+    ensures same { SamePrefixIsOne }
+    ensures apart { PrefixesAreApart }
+    ensures first { OnePrefixIsFirst }
+    ensures earlier { EarlierIsEarlier }
+    ensures covering { CoveringComesFirst }
+{}
+
+/// The order of routes: the steps, each where those before it see no difference; after the last, both
+/// routes are as good. MED counts between routes from one router alone.
+pub fn law_of_steps()
+    ensures weight { GreaterWeightWins }
+    ensures preference { GreaterPreferenceWins }
+    ensures kind { LocalWins }
+    ensures path { ShorterPathWins }
+    ensures origin { LowerOriginWins }
+    ensures med { LowerMedWins }
+    ensures others { OthersTie }
+{}
+
+/// No route is better than itself, and what is better than a better one is better.
+pub fn law_of_better()
+    ensures one { OneIsBetter }
+    ensures on { BetterGoesOn }
+{}
