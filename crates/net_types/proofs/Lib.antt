@@ -5,3 +5,5 @@ pub mod SetLemmas
 pub mod CommunityLemmas
 pub mod PrefixLemmas
 pub mod BetterLemmas
+pub mod NetLemmas
+pub mod WordLemmas

@@ -1,14 +1,23 @@
 -- What is true of addresses, prefixes, sets, arcs, stubs and the order of routes, whatever they are.
-use Rattle.std.specs.Prelude.{ℕ, ◌≡◌, ◌≢◌, ◌<◌, ◌≤◌, ◌^◌, ◌-◌, ◌/◌, ◌↔◌, ◌⊎◌, true, false, length, Some}
+use Rattle.std.specs.Prelude.{ℕ, ◌≡◌, ◌≢◌, ◌<◌, ◌≤◌, ◌^◌, ◌-◌, ◌/◌, ◌↔◌, ◌⊎◌, ◌==◌, ◌&&◌, ◌||◌, true, false, not, List, length, slice_get, Some, bit_and, bit_or}
+use Rattle.std.specs.Int.{bit_not, w64}
 use Rattle.net_types.specs.declared.arcs.Arc.{Arc}
 use Rattle.net_types.specs.declared.config.Origin.{Origin}
 use Rattle.net_types.specs.declared.config.Origin.TheVariants.{Igp, Egp, Incomplete}
 use Rattle.net_types.specs.declared.routes.Source.{Source}
 use Rattle.net_types.specs.declared.routes.Source.TheVariants.{Local, Learned}
 use Rattle.net_types.specs.declared.routes.Route.{Route}
-use Rattle.net_types.specs.Arcs.{sender_of}
+use Rattle.net_types.specs.declared.network.Link.{Link}
+use Rattle.net_types.specs.declared.network.Owned.{Owned}
+use Rattle.net_types.specs.declared.network.Router.{Router}
+use Rattle.net_types.specs.Arcs.{sender_of, receiver_of}
 use Rattle.net_types.specs.Better.{is_better}
+use Rattle.net_types.specs.Distance.{Crosses}
+use Rattle.net_types.specs.FailSets.{IsFailureSet, holds, without}
+use Rattle.net_types.specs.NetFacts.{IsNet}
 use Rattle.net_types.specs.NetValue.{NetValue}
+use Rattle.net_types.specs.Owners.{owns, stub_cost}
+use Rattle.net_types.specs.Sets.{has}
 use Rattle.net_types.specs.PrefixValue.{PrefixValue, IsPrefix}
 use Rattle.net_types.specs.Masks.{masked}
 use Rattle.net_types.specs.Prefixes.{covers, overlaps, same_prefix, prefix_before}
@@ -131,3 +140,79 @@ OneIsBetter = (net : NetValue) (a b : Route) → is_better net a b ≡ true → 
 abbrev pub BetterGoesOn : Type 0
 BetterGoesOn =
     (net : NetValue) (a b c : Route) → is_better net a b ≡ true → is_better net b c ≡ true → is_better net a c ≡ true
+
+-- the two arcs of a link
+abbrev pub up_of : ℕ → Arc
+up_of link = record { link = link; down = false }
+
+abbrev pub down_of : ℕ → Arc
+down_of link = record { link = link; down = true }
+
+-- the one goes from the lower router number to the higher, and the other back
+abbrev pub UpGoesToTheHigher : Type 0
+UpGoesToTheHigher =
+    (net : NetValue) (link u v : ℕ) → IsNet net → sender_of net (up_of link) ≡ Some u → receiver_of net (up_of link) ≡ Some v → u < v
+
+abbrev pub DownGoesBack : Type 0
+DownGoesBack =
+    (net : NetValue) (link : ℕ) → (sender_of net (down_of link) ≡ receiver_of net (up_of link)) × (receiver_of net (down_of link) ≡ sender_of net (up_of link))
+
+-- an adjacency that is up is crossed both ways, each at the cost of the interface that it is left by
+abbrev pub AdjacenciesAreCrossed : Type 0
+AdjacenciesAreCrossed =
+    (net : NetValue) (failed : List ℕ) (number : ℕ) (link : Link) → slice_get net.links number ≡ Some link → link.adjacency ≡ true → holds failed number ≡ false →
+    Crosses net failed (up_of number) link.low.router link.high.router link.low.cost × Crosses net failed (down_of number) link.high.router link.low.router link.high.cost
+
+-- and nothing else is crossed, nor otherwise
+abbrev pub OnlyAdjacenciesAreCrossed : Type 0
+OnlyAdjacenciesAreCrossed =
+    (net : NetValue) (failed : List ℕ) (number u v cost : ℕ) (link : Link) → slice_get net.links number ≡ Some link →
+    (Crosses net failed (up_of number) u v cost → (link.adjacency ≡ true) × (holds failed number ≡ false) × (u ≡ link.low.router) × (v ≡ link.high.router) × (cost ≡ link.low.cost)) ×
+    (Crosses net failed (down_of number) u v cost → (link.adjacency ≡ true) × (holds failed number ≡ false) × (u ≡ link.high.router) × (v ≡ link.low.router) × (cost ≡ link.high.cost))
+
+-- a router owns the prefix of each of its entries, and has a stub of it at the entry's cost, none where the entry has none
+abbrev pub EntriesAreOwned : Type 0
+EntriesAreOwned =
+    (net : NetValue) (u i : ℕ) (router : Router) (entry : Owned) → IsNet net → slice_get net.routers u ≡ Some router → slice_get router.owned i ≡ Some entry →
+    (owns net u entry.prefix ≡ true) × (stub_cost net entry.prefix u ≡ entry.ospf_cost)
+
+-- and it owns no other prefix
+abbrev pub OwnersHaveEntries : Type 0
+OwnersHaveEntries =
+    (net : NetValue) (u : ℕ) (prefix : PrefixValue) → owns net u prefix ≡ true →
+    (router : Router) × (i : ℕ) × (entry : Owned) × (slice_get net.routers u ≡ Some router) × (slice_get router.owned i ≡ Some entry) × (entry.prefix ≡ prefix)
+
+-- a router with a stub of a prefix owns it
+abbrev pub StubsAreOwned : Type 0
+StubsAreOwned = (net : NetValue) (u cost : ℕ) (prefix : PrefixValue) → stub_cost net prefix u ≡ Some cost → owns net u prefix ≡ true
+
+-- a set of links without one of them holds the others, and is a failure set again
+abbrev pub WithoutHoldsTheOthers : Type 0
+WithoutHoldsTheOthers = (set : List ℕ) (link other : ℕ) → holds (without set link) other ≡ (holds set other && not (other == link))
+
+abbrev pub WithoutIsFailureSet : Type 0
+WithoutIsFailureSet = (set : List ℕ) (link : ℕ) → IsFailureSet set → IsFailureSet (without set link)
+
+-- what is in the words that sets of numbers below 64 are joined to
+pub record AreMembers (a b x : ℕ) : Type 0 where
+  pub union : has (bit_or a b) x ≡ (has a x || has b x)
+  pub common : has (bit_and a b) x ≡ (has a x && has b x)
+  pub minus : has (bit_and a (bit_not w64 b)) x ≡ (has a x && not (has b x))
+
+abbrev pub WordsAreSets : Type 0
+WordsAreSets = (a b x : ℕ) → b < 2 ^ 64 → x < 64 → AreMembers a b x
+
+-- and where one number is put in or taken out
+pub record AreMembersAt (a number x : ℕ) : Type 0 where
+  pub «with» : has (bit_or a (2 ^ number)) x ≡ (has a x || (x == number))
+  pub without : has (bit_and a (bit_not w64 (2 ^ number))) x ≡ (has a x && not (x == number))
+
+abbrev pub WordsChangeByOne : Type 0
+WordsChangeByOne = (a number x : ℕ) → number < 64 → x < 64 → AreMembersAt a number x
+
+-- no number is in the least word, all are in the greatest, and two words with the same numbers are one
+abbrev pub WordsHaveEnds : Type 0
+WordsHaveEnds = (x : ℕ) → x < 64 → (has 0 x ≡ false) × (has (2 ^ 64 - 1) x ≡ true)
+
+abbrev pub SameMembersAreOneSet : Type 0
+SameMembersAreOneSet = (a b : ℕ) → a < 2 ^ 64 → b < 2 ^ 64 → ((x : ℕ) → x < 64 → has a x ≡ has b x) → a ≡ b

@@ -1,7 +1,7 @@
 //! What is true of the words of the project, stated over definitions: each law is the contract of a
 //! function that does nothing.
 
-ghost use Rattle.net_types.specs.Laws.{AddressesLieInTheirSubnets, CoversEachAddress, OverlapsAtAnAddress, SamePrefixIsOne, PrefixesAreApart, OnePrefixIsFirst, EarlierIsEarlier, CoveringComesFirst, GreaterWeightWins, GreaterPreferenceWins, LocalWins, ShorterPathWins, LowerOriginWins, LowerMedWins, OthersTie, OneIsBetter, BetterGoesOn};
+ghost use Rattle.net_types.specs.Laws.{AddressesLieInTheirSubnets, CoversEachAddress, OverlapsAtAnAddress, SamePrefixIsOne, PrefixesAreApart, OnePrefixIsFirst, EarlierIsEarlier, CoveringComesFirst, GreaterWeightWins, GreaterPreferenceWins, LocalWins, ShorterPathWins, LowerOriginWins, LowerMedWins, OthersTie, OneIsBetter, BetterGoesOn, UpGoesToTheHigher, DownGoesBack, AdjacenciesAreCrossed, OnlyAdjacenciesAreCrossed, EntriesAreOwned, OwnersHaveEntries, StubsAreOwned, WithoutHoldsTheOthers, WithoutIsFailureSet, WordsAreSets, WordsChangeByOne, WordsHaveEnds, SameMembersAreOneSet};
 
 /// A prefix is a set of addresses: it covers another where it holds each address of the other, and two
 /// overlap where they share one.
@@ -36,4 +36,34 @@ pub fn law_of_steps()
 pub fn law_of_better()
     ensures one { OneIsBetter }
     ensures on { BetterGoesOn }
+{}
+
+/// A link's two arcs: up from the lower router number to the higher, down back, each at the cost of the
+/// interface that it leaves by.
+pub fn law_of_arcs()
+    ensures up { UpGoesToTheHigher }
+    ensures down { DownGoesBack }
+    ensures crossed { AdjacenciesAreCrossed }
+    ensures only { OnlyAdjacenciesAreCrossed }
+{}
+
+/// A router owns the prefixes of its entries, and its stubs are theirs.
+pub fn law_of_owners()
+    ensures entries { EntriesAreOwned }
+    ensures owners { OwnersHaveEntries }
+    ensures stubs { StubsAreOwned }
+{}
+
+/// A failure set without a link holds the others.
+pub fn law_of_failure_sets()
+    ensures others { WithoutHoldsTheOthers }
+    ensures valid { WithoutIsFailureSet }
+{}
+
+/// Sets of numbers below 64, which contracts see as words, asked of one number.
+pub fn law_of_words()
+    ensures joined { WordsAreSets }
+    ensures one { WordsChangeByOne }
+    ensures ends { WordsHaveEnds }
+    ensures same { SameMembersAreOneSet }
 {}
