@@ -1,5 +1,5 @@
 -- The order of routes, step by step.
-use Rattle.std.proofs.Common.{ℕ, ◌≡◌, ◌<◌, ◌≤◌, ◌==◌, ◌⊎◌, inl, inr, Bool, true, false, arith, ap, sym, subst, refl, ◌∙◌, length, Option, Some, None, if◌then◌else◌}
+use Rattle.std.proofs.Common.{ℕ, ◌≡◌, ◌<◌, ◌==◌, ◌⊎◌, inl, inr, Bool, true, false, arith, ap, sym, refl, ◌∙◌, length, Option, Some, None, if◌then◌else◌}
 use Rattle.std.specs.declared.cmp.Ordering.{Ordering}
 use Rattle.std.specs.declared.cmp.Ordering.TheVariants.{Less, Equal, Greater}
 use Rattle.std.specs.Ordering.{is_lt, nat_cmp, ordering_then}
@@ -14,7 +14,7 @@ use Rattle.net_types.specs.declared.routes.Route.{Route}
 use Rattle.net_types.specs.Arcs.{sender_of}
 use Rattle.net_types.specs.Better.{source_rank, origin_rank, same_router, med_step, is_better}
 use Rattle.net_types.specs.NetValue.{NetValue}
-use Rattle.net_types.specs.Laws.{IsFrom, AreOfOneKind, IsLowerOrigin, AlikeToPreference, AlikeToKind, AlikeToLength, AlikeToOrigin, GreaterWeightWins, GreaterPreferenceWins, LocalWins, ShorterPathWins, LowerOriginWins, LowerMedWins, OthersTie, OneIsBetter, BetterGoesOn}
+use Rattle.net_types.specs.Laws.{AreOfOneKind, IsLowerOrigin, AlikeToPreference, AlikeToKind, AlikeToLength, AlikeToOrigin, GreaterWeightWins, GreaterPreferenceWins, LocalWins, ShorterPathWins, LowerOriginWins, LowerMedWins, OthersTie, OneIsBetter, BetterGoesOn}
 
 -- one step, and those behind it
 step_less : (o rest : Ordering) → o ≡ Less → is_lt (ordering_then o rest) ≡ true
@@ -212,11 +212,11 @@ med_goes_on net a b c h i =
 pub better_goes_on : BetterGoesOn
 better_goes_on net a b c =
     goes_back a.weight b.weight c.weight (by_preference net a b) (by_preference net b c) (by_preference net a c)
-      (goes_back a.preference b.preference c.preference (by_kind net a b) (by_kind net b c) (by_kind net a c)
-        (goes_on (source_rank a.source) (source_rank b.source) (source_rank c.source) (by_length net a b) (by_length net b c) (by_length net a c)
-          (goes_on (length a.path) (length b.path) (length c.path) (by_origin net a b) (by_origin net b c) (by_origin net a c)
-            (goes_on (origin_rank a.origin) (origin_rank b.origin) (origin_rank c.origin) (by_med net a b) (by_med net b c) (by_med net a c)
-              (med_goes_on net a b c)))))
+    (goes_back a.preference b.preference c.preference (by_kind net a b) (by_kind net b c) (by_kind net a c)
+    (goes_on (source_rank a.source) (source_rank b.source) (source_rank c.source) (by_length net a b) (by_length net b c) (by_length net a c)
+    (goes_on (length a.path) (length b.path) (length c.path) (by_origin net a b) (by_origin net b c) (by_origin net a c)
+    (goes_on (origin_rank a.origin) (origin_rank b.origin) (origin_rank c.origin) (by_med net a b) (by_med net b c) (by_med net a c)
+    (med_goes_on net a b c)))))
 
 pub one_is_better : OneIsBetter
 one_is_better net a b h = false_from_ne_true (is_better net b a) (λ i. let c : false ≡ true = sym (not_itself net a) ∙ better_goes_on net a b a h i in let d : ⊥ = cc in d)

@@ -7,3 +7,5 @@ pub mod PrefixLemmas
 pub mod BetterLemmas
 pub mod NetLemmas
 pub mod WordLemmas
+pub mod NumberLemmas
+pub mod TextLemmas

@@ -1,7 +1,6 @@
 -- The two arcs of a link, what a router owns, and failure sets without a link.
-use Rattle.std.proofs.Common.{ℕ, zero, suc, ◌≡◌, ◌<◌, ◌≤◌, ◌==◌, ◌&&◌, ◌||◌, ◌⊎◌, inl, inr, Bool, true, false, not, List, [], ◌∷◌, length, Option, Some, None, filter, cond, All, AllPairs, slice_index_or, arith, ap, sym, subst, refl, ◌∙◌}
+use Rattle.std.proofs.Common.{ℕ, zero, suc, ◌≡◌, ◌<◌, ◌≤◌, ◌==◌, ◌&&◌, ◌||◌, Bool, true, false, not, List, [], ◌∷◌, length, Option, Some, None, filter, cond, All, AllPairs, slice_index_or, arith, ap, sym, subst, refl, ◌∙◌}
 use Rattle.std.specs.Prelude.{slice_get, find, option_map, option_and_then}
-use Rattle.std.specs.List.{list_any}
 use Rattle.std.specs.Option.{option_map_or}
 use Rattle.std.proofs.lemmas.Bool.{eqb-true}
 use Rattle.std.proofs.lemmas.Bool.Decides.{nat_tests}
@@ -12,14 +11,13 @@ use Rattle.std.proofs.lemmas.Map.Views.{any-filter_same}
 use Rattle.net_types.specs.declared.network.Link.{Link}
 use Rattle.net_types.specs.declared.network.Owned.{Owned}
 use Rattle.net_types.specs.declared.network.Router.{Router}
-use Rattle.net_types.specs.Arcs.{sender_of, receiver_of}
-use Rattle.net_types.specs.FailSets.{IsFailureSet, holds, without}
-use Rattle.net_types.specs.NetFacts.{IsNet, IsLink, IsRouter}
+use Rattle.net_types.specs.FailSets.{holds}
+use Rattle.net_types.specs.NetFacts.{IsLink, IsRouter}
 use Rattle.net_types.specs.NetValue.{NetValue}
 use Rattle.net_types.specs.Owners.{is_owned, owns, stub_of, stub_cost}
 use Rattle.net_types.specs.PrefixValue.{PrefixValue}
 use Rattle.net_types.specs.Prefixes.{same_prefix, prefix_before}
-use Rattle.net_types.specs.Laws.{up_of, down_of, UpGoesToTheHigher, DownGoesBack, AdjacenciesAreCrossed, OnlyAdjacenciesAreCrossed, EntriesAreOwned, OwnersHaveEntries, StubsAreOwned, WithoutHoldsTheOthers, WithoutIsFailureSet}
+use Rattle.net_types.specs.Laws.{UpGoesToTheHigher, DownGoesBack, AdjacenciesAreCrossed, OnlyAdjacenciesAreCrossed, EntriesAreOwned, OwnersHaveEntries, StubsAreOwned, WithoutHoldsTheOthers, WithoutIsFailureSet}
 
 -- an item of a list of which all are so
 item : {X : Type 0} (P : X → Type 0) (xs : List X) (i : ℕ) (x : X) → All P xs → slice_get xs i ≡ Some x → P x
@@ -53,11 +51,11 @@ same_link a b o e f = cc
 pub only_adjacencies_are_crossed : OnlyAdjacenciesAreCrossed
 only_adjacencies_are_crossed net failed number u v cost link is = (
   λ c. (
-    let e = same_link c.link link (slice_get net.links number) c.is is in
-    (ap (λ (l : Link). l.adjacency) (sym e) ∙ c.adjacency, c.up, sym c.from ∙ ap (λ (l : Link). l.low.router) e, sym c.to ∙ ap (λ (l : Link). l.high.router) e, sym c.costs ∙ ap (λ (l : Link). l.low.cost) e)),
+      let e = same_link c.link link (slice_get net.links number) c.is is in
+      (ap (λ (l : Link). l.adjacency) (sym e) ∙ c.adjacency, c.up, sym c.from ∙ ap (λ (l : Link). l.low.router) e, sym c.to ∙ ap (λ (l : Link). l.high.router) e, sym c.costs ∙ ap (λ (l : Link). l.low.cost) e)),
   λ c. (
-    let e = same_link c.link link (slice_get net.links number) c.is is in
-    (ap (λ (l : Link). l.adjacency) (sym e) ∙ c.adjacency, c.up, sym c.from ∙ ap (λ (l : Link). l.high.router) e, sym c.to ∙ ap (λ (l : Link). l.low.router) e, sym c.costs ∙ ap (λ (l : Link). l.high.cost) e)),
+      let e = same_link c.link link (slice_get net.links number) c.is is in
+      (ap (λ (l : Link). l.adjacency) (sym e) ∙ c.adjacency, c.up, sym c.from ∙ ap (λ (l : Link). l.high.router) e, sym c.to ∙ ap (λ (l : Link). l.low.router) e, sym c.costs ∙ ap (λ (l : Link). l.high.cost) e)),
 )
 
 -- the entry of a prefix, among entries that ascend, is the one that is found
@@ -76,7 +74,7 @@ found [] i entry up is = absurd (let d : ⊥ = cc in d)
 found (first ∷ rest) zero entry up is =
     let e : first ≡ entry = cc in
     subst (λ (x : Owned). find (λ (other : Owned). same_prefix other.prefix x.prefix) (first ∷ rest) ≡ Some x) e
-      (let t = tests_itself first.prefix in rw t refl)
+    (let t = tests_itself first.prefix in rw t refl)
 found (first ∷ rest) (suc j) entry up is =
     let low : j < length rest = slice_get_within rest j entry is in
     let at : slice_index_or rest j entry ≡ entry = get_or_from_slice_get rest j entry entry is in
@@ -103,8 +101,7 @@ stub_found prefix owned entry e = rw e refl
 
 pub entries_are_owned : EntriesAreOwned
 entries_are_owned net u i router entry valid at is =
-    let f = found router.owned i entry (item (IsRouter (length net.communities)) net.routers u router valid.routers at).ascending is in
-    (
+    let f = found router.owned i entry (item (IsRouter (length net.communities)) net.routers u router valid.routers at).ascending is in (
       owned_at net u router entry.prefix at (any_found router.owned entry.prefix entry f),
       stub_at net u router entry.prefix at ∙ stub_found entry.prefix router.owned entry f,
     )
@@ -132,6 +129,7 @@ stubs_are_owned net u cost prefix h = go (slice_get net.routers u) h where
   by_entry : (router : Router) (found : Option Owned) → find (λ (other : Owned). same_prefix other.prefix prefix) router.owned ≡ found → option_and_then (λ (entry : Owned). entry.ospf_cost) found ≡ Some cost → is_owned prefix router.owned ≡ true
   by_entry router None e h = absurd (let d : ⊥ = cc in d)
   by_entry router (Some entry) e h = any_found router.owned prefix entry e
+
   go : (o : Option Router) → option_and_then (λ (router : Router). stub_of prefix router.owned) o ≡ Some cost → option_map_or (λ (router : Router). is_owned prefix router.owned) o false ≡ true
   go None h = absurd (let d : ⊥ = cc in d)
   go (Some router) h = by_entry router (find (λ (other : Owned). same_prefix other.prefix prefix) router.owned) refl h
@@ -145,7 +143,7 @@ turned false false = refl
 pub without_holds_the_others : WithoutHoldsTheOthers
 without_holds_the_others set link other =
     any-filter_same (λ (number : ℕ). number == other) (λ (number : ℕ). not (number == link)) (not (other == link))
-      (λ number e. ap (λ (k : ℕ). not (k == link)) (eqb-true number other e)) set ∙ turned (not (other == link)) (holds set other)
+    (λ number e. ap (λ (k : ℕ). not (k == link)) (eqb-true number other e)) set ∙ turned (not (other == link)) (holds set other)
 
 filter_few : {X : Type 0} (p : X → Bool) (xs : List X) → length (filter p xs) ≤ length xs
 filter_few p [] = omega arith

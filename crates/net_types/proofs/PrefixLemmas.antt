@@ -1,12 +1,11 @@
 -- Prefixes as sets of addresses, and their order.
-use Rattle.std.proofs.Common.{ℕ, ◌≡◌, ◌≢◌, ◌<◌, ◌≤◌, ◌+◌, ◌*◌, ◌/◌, ◌%◌, ◌^◌, ◌-◌, ◌⊎◌, inl, inr, true, false, arith, ap, sym, subst, refl, ◌∙◌}
+use Rattle.std.proofs.Common.{ℕ, ◌≡◌, ◌<◌, ◌≤◌, ◌+◌, ◌*◌, ◌/◌, ◌%◌, ◌^◌, ◌-◌, inl, inr, true, arith, ap, sym, subst, refl, ◌∙◌}
 use Rattle.std.proofs.lemmas.Bool.{and_parts, and_from, or_cases, or_left, or_right, leb-true, le-leb, eqb-true, eq-eqb, cases_lt}
 use Rattle.std.proofs.lemmas.Bool.Decides.{nat_tests}
 use Rattle.std.proofs.lemmas.Nat.{shl-shr, shr-shr, shr_split, div-mul-add, mod_below, div-add-mod', pow_pos, pow_below, pow-add, shr_below, row_fits}
 use Rattle.std.proofs.Math.Nat.{div-mul-le_self}
 use Rattle.net_types.specs.PrefixValue.{PrefixValue, IsPrefix}
-use Rattle.net_types.specs.Masks.{masked}
-use Rattle.net_types.specs.Prefixes.{covers, overlaps, same_prefix, prefix_before}
+use Rattle.net_types.specs.Prefixes.{covers}
 use Rattle.net_types.specs.Laws.{IsIn, AddressesLieInTheirSubnets, CoversEachAddress, OverlapsAtAnAddress, SamePrefixIsOne, PrefixesAreApart, OnePrefixIsFirst, EarlierIsEarlier, CoveringComesFirst}
 use Rattle.net_types.proofs.MaskLemmas.{masked_is_prefix}
 

@@ -1,5 +1,5 @@
 -- Words as sets of numbers below 64.
-use Rattle.std.proofs.Common.{ℕ, ◌≡◌, ◌≢◌, ◌<◌, ◌≤◌, ◌-◌, ◌^◌, ◌==◌, ◌&&◌, ◌||◌, ◌⊎◌, inl, inr, Bool, true, false, not, bit_or, bit_and, arith, ap, ◌∙◌, refl, sym, subst}
+use Rattle.std.proofs.Common.{ℕ, ◌≡◌, ◌<◌, ◌-◌, ◌^◌, ◌==◌, ◌&&◌, ◌||◌, inl, inr, Bool, true, not, bit_and, arith, ap, ◌∙◌, refl, sym, subst}
 use Rattle.std.specs.Int.{bit_at, bit_not, w64}
 use Rattle.std.proofs.lemmas.Bool.{cases_eq}
 use Rattle.std.proofs.lemmas.Bool.Decides.{nat_tests}
@@ -48,5 +48,5 @@ words_have_ends x low = ((let e = bit_at-zero x in grind (arith, nat_tests)), (l
 pub same_members_are_one_set : SameMembersAreOneSet
 same_members_are_one_set a b small other same =
     same_from_bits_below 64 a b small other (λ x low. let e = same x low in let p = bit_at-lt a x in let q = bit_at-lt b x in go (bit_at a x) (bit_at b x) e p q) where
-  go : (m n : ℕ) → (m == 1) ≡ (n == 1) → m < 2 → n < 2 → m ≡ n
-  go m n e p q = grind (arith, nat_tests)
+      go : (m n : ℕ) → (m == 1) ≡ (n == 1) → m < 2 → n < 2 → m ≡ n
+      go m n e p q = grind (arith, nat_tests)

@@ -1,5 +1,6 @@
 -- What is true of addresses, prefixes, sets, arcs, stubs and the order of routes, whatever they are.
-use Rattle.std.specs.Prelude.{ℕ, ◌≡◌, ◌≢◌, ◌<◌, ◌≤◌, ◌^◌, ◌-◌, ◌/◌, ◌↔◌, ◌⊎◌, ◌==◌, ◌&&◌, ◌||◌, true, false, not, List, length, slice_get, Some, bit_and, bit_or}
+use Rattle.std.specs.Prelude.{ℕ, ◌≡◌, ◌≢◌, ◌<◌, ◌≤◌, ◌^◌, ◌-◌, ◌/◌, ◌↔◌, ◌⊎◌, ◌==◌, ◌&&◌, ◌||◌, ◌+◌, ◌*◌, true, false, not, List, length, slice_get, Some, bit_and, bit_or, codes}
+use Rattle.std.specs.Fmt.{decimal}
 use Rattle.std.specs.Int.{bit_not, w64}
 use Rattle.net_types.specs.declared.arcs.Arc.{Arc}
 use Rattle.net_types.specs.declared.config.Origin.{Origin}
@@ -10,17 +11,22 @@ use Rattle.net_types.specs.declared.routes.Route.{Route}
 use Rattle.net_types.specs.declared.network.Link.{Link}
 use Rattle.net_types.specs.declared.network.Owned.{Owned}
 use Rattle.net_types.specs.declared.network.Router.{Router}
+use Rattle.net_types.specs.Addresses.{address_of}
+use Rattle.net_types.specs.AddressTexts.{address_text, prefix_text}
+use Rattle.net_types.specs.Communities.{community_of}
+use Rattle.net_types.specs.Numerals.{number_in}
+use Rattle.net_types.specs.Then.{◌then◌}
 use Rattle.net_types.specs.Arcs.{sender_of, receiver_of}
 use Rattle.net_types.specs.Better.{is_better}
 use Rattle.net_types.specs.Distance.{Crosses}
 use Rattle.net_types.specs.FailSets.{IsFailureSet, holds, without}
-use Rattle.net_types.specs.NetFacts.{IsNet}
+use Rattle.net_types.specs.NetFacts.{IsNet, no_export, no_advertise}
 use Rattle.net_types.specs.NetValue.{NetValue}
 use Rattle.net_types.specs.Owners.{owns, stub_cost}
 use Rattle.net_types.specs.Sets.{has}
 use Rattle.net_types.specs.PrefixValue.{PrefixValue, IsPrefix}
 use Rattle.net_types.specs.Masks.{masked}
-use Rattle.net_types.specs.Prefixes.{covers, overlaps, same_prefix, prefix_before}
+use Rattle.net_types.specs.Prefixes.{covers, overlaps, same_prefix, prefix_before, prefix_of}
 
 -- the address lies in the prefix: the first bits of the two are the same
 pub record IsIn (address : ℕ) (p : PrefixValue) : Type 0 where
@@ -216,3 +222,34 @@ WordsHaveEnds = (x : ℕ) → x < 64 → (has 0 x ≡ false) × (has (2 ^ 64 - 1
 
 abbrev pub SameMembersAreOneSet : Type 0
 SameMembersAreOneSet = (a b : ℕ) → a < 2 ^ 64 → b < 2 ^ 64 → ((x : ℕ) → x < 64 → has a x ≡ has b x) → a ≡ b
+
+-- a number is read from its decimal text, and from no other
+abbrev pub NumbersReadBack : Type 0
+NumbersReadBack = (low high n : ℕ) → high < 2 ^ 64 → low ≤ n → n ≤ high → number_in low high (decimal n) ≡ Some n
+
+abbrev pub NumbersHaveOneText : Type 0
+NumbersHaveOneText =
+    (low high n : ℕ) (text : List ℕ) → high < 2 ^ 64 → number_in low high text ≡ Some n → (text ≡ decimal n) × (low ≤ n) × (n ≤ high)
+
+-- an address is read from the text that is written of it, and from no other
+abbrev pub AddressesReadBack : Type 0
+AddressesReadBack = (address : ℕ) → address < 2 ^ 32 → address_of (address_text address) ≡ Some address
+
+abbrev pub AddressesHaveOneText : Type 0
+AddressesHaveOneText = (address : ℕ) (text : List ℕ) → address_of text ≡ Some address → text ≡ address_text address
+
+-- and so a prefix
+abbrev pub PrefixesReadBack : Type 0
+PrefixesReadBack = (p : PrefixValue) → IsPrefix p → prefix_of (prefix_text p) ≡ Some p
+
+abbrev pub PrefixesHaveOneText : Type 0
+PrefixesHaveOneText = (p : PrefixValue) (text : List ℕ) → prefix_of text ≡ Some p → text ≡ prefix_text p
+
+-- a community is read from its halves, and the two of RFC 1997 from their names
+abbrev pub CommunitiesReadBack : Type 0
+CommunitiesReadBack =
+    (first second : ℕ) → first ≤ 65535 → second ≤ 65535 →
+    community_of (decimal first then codes ":" then decimal second) ≡ Some (first * 65536 + second)
+
+abbrev pub NamedCommunitiesAreRead : Type 0
+NamedCommunitiesAreRead = (community_of (codes "no-export") ≡ Some no_export) × (community_of (codes "no-advertise") ≡ Some no_advertise)

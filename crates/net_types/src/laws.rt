@@ -1,7 +1,7 @@
 //! What is true of the words of the project, stated over definitions: each law is the contract of a
 //! function that does nothing.
 
-ghost use Rattle.net_types.specs.Laws.{AddressesLieInTheirSubnets, CoversEachAddress, OverlapsAtAnAddress, SamePrefixIsOne, PrefixesAreApart, OnePrefixIsFirst, EarlierIsEarlier, CoveringComesFirst, GreaterWeightWins, GreaterPreferenceWins, LocalWins, ShorterPathWins, LowerOriginWins, LowerMedWins, OthersTie, OneIsBetter, BetterGoesOn, UpGoesToTheHigher, DownGoesBack, AdjacenciesAreCrossed, OnlyAdjacenciesAreCrossed, EntriesAreOwned, OwnersHaveEntries, StubsAreOwned, WithoutHoldsTheOthers, WithoutIsFailureSet, WordsAreSets, WordsChangeByOne, WordsHaveEnds, SameMembersAreOneSet};
+ghost use Rattle.net_types.specs.Laws.{AddressesLieInTheirSubnets, CoversEachAddress, OverlapsAtAnAddress, SamePrefixIsOne, PrefixesAreApart, OnePrefixIsFirst, EarlierIsEarlier, CoveringComesFirst, GreaterWeightWins, GreaterPreferenceWins, LocalWins, ShorterPathWins, LowerOriginWins, LowerMedWins, OthersTie, OneIsBetter, BetterGoesOn, UpGoesToTheHigher, DownGoesBack, AdjacenciesAreCrossed, OnlyAdjacenciesAreCrossed, EntriesAreOwned, OwnersHaveEntries, StubsAreOwned, WithoutHoldsTheOthers, WithoutIsFailureSet, WordsAreSets, WordsChangeByOne, WordsHaveEnds, SameMembersAreOneSet, NumbersReadBack, NumbersHaveOneText, AddressesReadBack, AddressesHaveOneText, PrefixesReadBack, PrefixesHaveOneText, CommunitiesReadBack, NamedCommunitiesAreRead};
 
 /// A prefix is a set of addresses: it covers another where it holds each address of the other, and two
 /// overlap where they share one.
@@ -66,4 +66,24 @@ pub fn law_of_words()
     ensures one { WordsChangeByOne }
     ensures ends { WordsHaveEnds }
     ensures same { SameMembersAreOneSet }
+{}
+
+/// A number is read from its decimal text alone.
+pub fn law_of_numbers()
+    ensures back { NumbersReadBack }
+    ensures one { NumbersHaveOneText }
+{}
+
+/// Addresses and prefixes are read from the texts that are written of them, and from no others.
+pub fn law_of_texts()
+    ensures addresses { AddressesReadBack }
+    ensures one_address { AddressesHaveOneText }
+    ensures prefixes { PrefixesReadBack }
+    ensures one_prefix { PrefixesHaveOneText }
+{}
+
+/// Communities are read from their halves or names.
+pub fn law_of_communities()
+    ensures halves { CommunitiesReadBack }
+    ensures names { NamedCommunitiesAreRead }
 {}

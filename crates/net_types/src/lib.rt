@@ -40,8 +40,8 @@ pub use config::{
 pub use cuts::cut;
 pub use fail_sets::FailSet;
 pub use laws::{
-    law_of_addresses, law_of_arcs, law_of_better, law_of_failure_sets, law_of_owners,
-    law_of_prefixes, law_of_steps, law_of_words,
+    law_of_addresses, law_of_arcs, law_of_better, law_of_communities, law_of_failure_sets,
+    law_of_numbers, law_of_owners, law_of_prefixes, law_of_steps, law_of_texts, law_of_words,
 };
 pub use lists::List;
 pub use names::{is_host, is_name};
