@@ -102,7 +102,7 @@ IsRedistribute config No = Unit {0}
 IsRedistribute config Plain = Unit {0}
 IsRedistribute config (By name) = has_map config name ≡ true
 
--- the BGP part of the configuration: an AS number of at least 1, and neighbors with addresses of their own
+-- the BGP part of the configuration: an AS number of at least 1, and no two neighbors of one address
 pub record IsBgp (config : RouterConfig) (bgp : BgpConfig) : Type 0 where
   pub least : 1 ≤ bgp.asn
   pub word : bgp.asn < 2 ^ 32

@@ -1,5 +1,6 @@
 -- Distances and next hops of OSPF, after RFC 2328, section 16: least sums of the costs of outgoing
--- interfaces, and all equal least paths used. A prefix that is no stub of OSPF has none.
+-- interfaces, and all equal least paths used. That only stubs have distances, and the subnets of links none, is
+-- this project's own.
 use Rattle.std.specs.Prelude.{ℕ, ◌≡◌, ◌≤◌, ◌<◌, ◌+◌, true, false, List, [], ◌∷◌, length, Option, Some, None, slice_get, slice_index_or}
 use Rattle.net_types.specs.declared.arcs.Arc.{Arc}
 use Rattle.net_types.specs.declared.network.Link.{Link}

@@ -16,7 +16,7 @@ holds set link = list_any (λ number. number == link) set
 abbrev pub without : List ℕ → ℕ → List ℕ
 without set link = filter (λ number. not (number == link)) set
 
--- a failure set as three places, those past its numbers holding 255
+-- a failure set as three places, those past its numbers holding 255; the count tells them from a link of that number
 abbrev pub padded : List ℕ → List ℕ
 padded set = take 3 (set ++ 255 ∷ 255 ∷ 255 ∷ [])
 

@@ -1,4 +1,5 @@
--- What is true of addresses, prefixes, sets, arcs, stubs and the order of routes, whatever they are.
+-- What is true of all addresses, prefixes, texts, routes, arcs, owners and sets. The definitions that the code is
+-- proved against say each rule once; these say in other words what has to come out of them.
 use Rattle.std.specs.Prelude.{ℕ, ◌≡◌, ◌≢◌, ◌<◌, ◌≤◌, ◌^◌, ◌-◌, ◌/◌, ◌↔◌, ◌⊎◌, ◌==◌, ◌&&◌, ◌||◌, ◌+◌, ◌*◌, true, false, not, List, length, slice_get, Some, bit_and, bit_or, codes}
 use Rattle.std.specs.Fmt.{decimal}
 use Rattle.std.specs.Int.{bit_not, w64}

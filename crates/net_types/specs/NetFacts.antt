@@ -145,9 +145,10 @@ notice_before a b = nat_lt a.router b.router || ((a.router == b.router) && nat_l
 abbrev pub AreApart : Option ℕ → Option ℕ → Type 0
 AreApart a b = IfSome a (λ m. IfSome b (λ n. m ≢ n))
 
--- a network: routers ascend by host and have AS numbers of their own, links ascend by subnet, communities
--- ascend and hold the two of RFC 1997, notices ascend by router and address; there are at most 64 routers, links and communities; each position, router number and
--- number of a community is inside its list, and each written number fits its type
+-- a network: routers ascend by host, and no two have one AS number; links ascend by subnet; communities ascend
+-- and hold the two of RFC 1997; notices ascend by router and address; there are at most 64 routers, links and
+-- communities; each position, router number and number of a community is inside its list, and each written number
+-- fits its type
 pub record IsNet (net : NetValue) : Type 0 where
   pub few_routers : length net.routers ≤ 64
   pub hosts : AllPairs (λ (a b : Router). text_before a.host b.host ≡ true) net.routers

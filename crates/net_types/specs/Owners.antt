@@ -15,10 +15,11 @@ is_owned prefix owned = list_any (λ entry. same_prefix entry.prefix prefix) own
 abbrev pub owns : NetValue → ℕ → PrefixValue → Bool
 owns net u prefix = option_map_or (λ router. is_owned prefix router.owned) (slice_get net.routers u) false
 
--- the cost of the prefix's OSPF stub among what a router owns, where there is one: the least of such stubs
+-- the OSPF cost of the prefix's entry among what a router owns, where there is one; an owner may have none
 abbrev pub stub_of : PrefixValue → List Owned → Option ℕ
 stub_of prefix owned = option_and_then (λ entry. entry.ospf_cost) (find (λ entry. same_prefix entry.prefix prefix) owned)
 
--- the least cost of the router's OSPF stubs of the prefix, where it has one
+-- the cost of the router's OSPF stub of the prefix, where it has one: as its entry says, where `topology` puts the
+-- least cost of the stubs of that prefix
 abbrev pub stub_cost : NetValue → PrefixValue → ℕ → Option ℕ
 stub_cost net prefix u = option_and_then (λ router. stub_of prefix router.owned) (slice_get net.routers u)

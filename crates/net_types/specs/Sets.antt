@@ -1,8 +1,8 @@
--- Sets of numbers below 64, each seen as the word whose bit `n` is set where `n` is in the set.
+-- Sets of numbers below 64, each seen as the word of 64 bits whose bit `n` is set where `n` is in the set.
 use Rattle.std.specs.Prelude.{ℕ, ◌≡◌, ◌==◌, Bool, true, bit_and}
 use Rattle.std.specs.Int.{bit_at}
 
--- whether the number is in the set
+-- whether the number is in the set; a number past 63 is in none
 abbrev pub has : ℕ → ℕ → Bool
 has set x = bit_at set x == 1
 

@@ -98,7 +98,7 @@ pub struct PrefixList {
 /// An entry of a prefix list: the prefixes in `prefix` whose lengths are `least` to `most`.
 #[derive(Clone, Copy, PartialEq, Eq, Debug)]
 pub struct PrefixEntry {
-    /// The sequence number, at least 1.
+    /// The sequence number.
     pub seq: u32,
     /// Whether a match is a permit.
     pub permit: bool,
@@ -122,7 +122,7 @@ pub struct CommunityList {
 /// An entry of a community list: the routes with all of these communities.
 #[derive(Debug, Drop)]
 pub struct CommunityEntry {
-    /// The sequence number, at least 1.
+    /// The sequence number.
     pub seq: u32,
     /// Whether a match is a permit.
     pub permit: bool,
@@ -142,7 +142,7 @@ pub struct RouteMap {
 /// An entry of a route map.
 #[derive(Debug, Drop)]
 pub struct MapEntry {
-    /// The sequence number, at least 1.
+    /// The sequence number.
     pub seq: u16,
     /// Whether a match is a permit.
     pub permit: bool,

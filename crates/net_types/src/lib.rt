@@ -3,8 +3,8 @@
 //! Decides: how addresses, prefixes and numbers are read from text, which prefix covers which, and
 //! what is true of every network (`specs/NetFacts.antt`). What a file means, `frr_reader` decides.
 //! Stands on: nothing of the project.
-//! Promises: each reading answers exactly for the texts that are written so, and a `Net` keeps its
-//! validity. Not: that a network came from any file.
+//! Promises: each reader gives the value of exactly the texts that its definition reads, a `Net` keeps its
+//! validity, and the laws of `specs/Laws.antt`. Not: that a network came from any file.
 #![tactic(auto)]
 
 mod address_texts;

@@ -1,4 +1,4 @@
-//! Texts of addresses and prefixes, and sets of failed links.
+//! Texts of addresses, prefixes, numbers and names, the order of prefixes, and sets.
 
 use crate::{
     Bits64, FailSet, Prefix, address_text, is_host, is_name, prefix_text, read_address,
@@ -58,15 +58,41 @@ fn prefixes_in_each_other(rt: HostRuntime) {
             && host.is_before(&other)
             && !other.is_before(&other)
     );
+    // the same bits: the shorter comes first
+    let sixteen = Prefix::masked(0x0a00_0000, 16);
+    let thirty = Prefix::masked(0x0a00_0000, 30);
+    assert!(rt; ten.is_before(&sixteen) && !sixteen.is_before(&ten));
+    assert!(rt; sixteen.is_before(&thirty) && !thirty.is_before(&sixteen));
+}
+
+#[test]
+fn masks(rt: HostRuntime) {
+    let address = 0xc0a8_0181;
+    let cases = [
+        (Prefix::masked(address, 25), 0xc0a8_0180, 25),
+        (Prefix::masked(address, 24), 0xc0a8_0100, 24),
+        (Prefix::masked(address, 1), 0x8000_0000, 1),
+        (Prefix::masked(address, 0), 0, 0),
+        (Prefix::masked(address, 32), 0xc0a8_0181, 32),
+    ];
+    for (prefix, bits, len) in cases {
+        assert_eq!(rt; (prefix.bits, prefix.len), (bits, len));
+    }
 }
 
 #[test]
 fn texts(rt: HostRuntime) {
     let alloc = rt.alloc();
-    let prefix = Prefix::masked(0x0a00_0100, 30);
-    match prefix_text(alloc, &prefix) {
-        Ok(text) => assert_eq!(rt; text.as_str(), "10.0.1.0/30"),
-        Err(_) => assert!(rt; false),
+    let cases = [
+        (Prefix::masked(0x0a00_0100, 30), "10.0.1.0/30"),
+        (Prefix::masked(0, 0), "0.0.0.0/0"),
+        (Prefix::masked(0xffff_ffff, 32), "255.255.255.255/32"),
+    ];
+    for (prefix, wanted) in cases {
+        match prefix_text(alloc, &prefix) {
+            Ok(text) => assert_eq!(rt; text.as_str(), wanted),
+            Err(_) => assert!(rt; false),
+        }
     }
     match address_text(alloc, 0xc000_0201) {
         Ok(text) => assert_eq!(rt; text.as_str(), "192.0.2.1"),
@@ -81,8 +107,51 @@ fn numbers_and_names(rt: HostRuntime) {
     assert_eq!(rt; read_number(b"99999999999999999999999999", 0, 65535), None);
     assert_eq!(rt; read_number(b"0", 0, 1), Some(0));
     assert_eq!(rt; read_number(b"+1", 0, 1), None);
+    assert_eq!(rt;
+        read_number(b"4294967295", 1, 0xffff_ffff),
+        Some(0xffff_ffff)
+    );
+    assert_eq!(rt; read_number(b"4294967296", 1, 0xffff_ffff), None);
+    assert_eq!(rt; read_number(b"0", 1, 9), None);
+    for text in [
+        b"00".as_slice(),
+        b"01",
+        b"",
+        b"1 ",
+        b" 1",
+        b"-1",
+        b"1/",
+        b"1:",
+    ] {
+        assert_eq!(rt; read_number(text, 0, 9), None);
+    }
     assert!(rt; is_host(b"core-1.example_net") && !is_host(b"a b") && !is_host(b""));
     assert!(rt; is_name(b"eth0:1") && !is_name(b"a\tb"));
+}
+
+#[test]
+fn ends_of_names(rt: HostRuntime) {
+    // the bytes beside the ranges of letters and digits, and of what is printed
+    for text in [b"/".as_slice(), b":", b"@", b"[", b"`", b"{", b"\xc3\xa9"] {
+        assert!(rt; !is_host(text));
+    }
+    for text in [
+        b"A".as_slice(),
+        b"Z",
+        b"a",
+        b"z",
+        b"0",
+        b"9",
+        b"-",
+        b".",
+        b"_",
+    ] {
+        assert!(rt; is_host(text));
+    }
+    assert!(rt; is_name(b"!") && is_name(b"~") && !is_name(b" ") && !is_name(b"\x7f"));
+    assert!(rt; !is_name(b"\xc3\xa9") && !is_name(b""));
+    assert!(rt; is_host(&[b'a'; 63]) && !is_host(&[b'a'; 64]));
+    assert!(rt; is_name(&[b'!'; 63]) && !is_name(&[b'!'; 64]));
 }
 
 #[test]
@@ -109,6 +178,32 @@ fn failure_sets(rt: HostRuntime) {
         );
         assert_eq!(rt; set.without(7), set);
     }
+    assert_eq!(rt; FailSet::of(&[]), Some(FailSet::empty()));
+    assert_eq!(rt;
+        FailSet::empty(),
+        FailSet {
+            count: 0,
+            links: [255; 3]
+        }
+    );
+}
+
+#[test]
+fn three_failures(rt: HostRuntime) {
+    let three = FailSet {
+        count: 3,
+        links: [1, 2, 3],
+    };
+    assert_eq!(rt; FailSet::of(&[1, 2, 3]), Some(three));
+    assert_eq!(rt; FailSet::of(&[1, 3, 2]), None);
+    assert_eq!(rt; FailSet::of(&[2, 1, 3]), None);
+    assert!(rt; three.holds(1) && three.holds(2) && three.holds(3) && !three.holds(4));
+    let cases = [(1, [2, 3, 255]), (2, [1, 3, 255]), (3, [1, 2, 255])];
+    for (link, links) in cases {
+        let two = three.without(link);
+        assert_eq!(rt; (two.count, two.links), (2, links));
+    }
+    assert_eq!(rt; three.without(4), three);
 }
 
 #[test]
