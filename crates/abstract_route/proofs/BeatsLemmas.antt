@@ -1,12 +1,13 @@
 -- A candidate that beats another has better routes alone: step by step, what the worst and the best decide the
 -- routes decide in the same way.
-use Rattle.std.proofs.Common.{ℕ, ◌≡◌, ◌<◌, ◌≤◌, ◌==◌, ◌⊎◌, inl, inr, Bool, true, false, List, [], ◌∷◌, length, Option, Some, None, arith, sym, refl, if◌then◌else◌}
+use Rattle.std.proofs.Common.{ℕ, ◌≡◌, ◌<◌, ◌≤◌, ◌==◌, ◌⊎◌, inl, inr, Bool, true, false, List, [], ◌∷◌, length, Option, Some, None, arith, sym, subst, refl, if◌then◌else◌, ◌^◌}
 use Rattle.std.specs.declared.cmp.Ordering.{Ordering}
 use Rattle.std.specs.declared.cmp.Ordering.TheVariants.{Less, Equal, Greater}
 use Rattle.std.specs.Ordering.{is_lt, nat_cmp, ordering_then}
 use Rattle.std.specs.Cmp.{nat_cmp_is}
 use Rattle.abstract_route.specs.declared.candidates.Candidate.{Candidate}
-use Rattle.abstract_route.specs.Beats.{beats, sender_rank, worst_steps, IsFrom, IsOf}
+use Rattle.abstract_route.specs.Beats.{beats, by_less, by_med, by_more, candidate_of, learned_from, sender_rank, worst_steps, HasSender, IsBest, IsFrom, IsOf, IsWorst}
+use Rattle.abstract_route.proofs.FitLemmas.{exact_is_least}
 use Rattle.net_types.specs.declared.routes.Route.{Route}
 use Rattle.net_types.specs.declared.routes.Source.{Source}
 use Rattle.net_types.specs.declared.routes.Source.TheVariants.{Local, Learned}
@@ -108,3 +109,55 @@ beats_is_sound net a b r s e f g = first_follows (worst_steps a b) (steps net r 
     ),
   ),
 ) e
+
+-- ---- the test is exact where a route is the worst, and another the best
+
+med_same : (net : NetValue) (a b : Option ℕ) (r s : Source) → IsFrom net a r → IsFrom net b s → (m n : ℕ) →
+    (if same_router a b then nat_cmp m n else Equal) ≡ med_step net r s m n
+med_same net None None Local Local f g m n = refl
+med_same net None (Some v) Local (Learned d) f g m n = refl
+med_same net (Some u) None (Learned c) Local f g m n = refl
+med_same net (Some u) (Some v) (Learned c) (Learned d) f g m n = rw (f, g) refl
+med_same net None b (Learned c) s f g m n = absurd f
+med_same net (Some u) b Local s f g m n = absurd f
+med_same net a None r (Learned d) f g m n = absurd g
+med_same net a (Some v) r Local f g m n = absurd g
+
+first_same : (a b c d e f a' b' c' d' e' f' : Ordering) → a ≡ a' → b ≡ b' → c ≡ c' → d ≡ d' → e ≡ e' → f ≡ f' →
+    is_lt (first_difference (a ∷ b ∷ c ∷ d ∷ e ∷ f ∷ [])) ≡ is_lt (first_difference (a' ∷ b' ∷ c' ∷ d' ∷ e' ∷ f' ∷ []))
+first_same a b c d e f a' b' c' d' e' f' p q r s t u =
+    λ i. is_lt (first_difference (p i ∷ q i ∷ r i ∷ s i ∷ t i ∷ u i ∷ []))
+
+cmp_same : (p q m n : ℕ) → p ≡ m → q ≡ n → nat_cmp p q ≡ nat_cmp m n
+cmp_same p q m n e f = λ i. nat_cmp (e i) (f i)
+
+pub beats_is_exact : (net : NetValue) (a b : Candidate) (r s : Route) → IsWorst r a.row → IsBest s b.row →
+    IsFrom net a.sender r.source → IsFrom net b.sender s.source → beats a b ≡ is_better net r s
+beats_is_exact net a b r s w v f g = first_same
+    (by_more a.row.weight b.row.weight) (by_more a.row.preference b.row.preference) (nat_cmp (sender_rank a.sender) (sender_rank b.sender))
+    (by_less a.row.length b.row.length) (by_less a.row.origin b.row.origin) (by_med a b)
+    (nat_cmp s.weight r.weight) (nat_cmp s.preference r.preference) (nat_cmp (source_rank r.source) (source_rank s.source))
+    (nat_cmp (length r.path) (length s.path)) (nat_cmp (origin_rank r.origin) (origin_rank s.origin)) (med_step net r.source s.source r.med s.med)
+    (cmp_same b.row.weight.high a.row.weight.low s.weight r.weight (sym v.weight) (sym w.weight))
+    (cmp_same b.row.preference.high a.row.preference.low s.preference r.preference (sym v.preference) (sym w.preference))
+    (cmp_same (sender_rank a.sender) (sender_rank b.sender) (source_rank r.source) (source_rank s.source)
+    (sym (rank_same net a.sender r.source f)) (sym (rank_same net b.sender s.source g)))
+    (cmp_same a.row.length.high b.row.length.low (length r.path) (length s.path) (sym w.length) (sym v.length))
+    (cmp_same a.row.origin.high b.row.origin.low (origin_rank r.origin) (origin_rank s.origin) (sym w.origin) (sym v.origin))
+    (subst (λ n. by_med a b ≡ med_step net r.source s.source n s.med) (sym w.med)
+    (subst (λ n. by_med a b ≡ med_step net r.source s.source a.row.med.high n) (sym v.med)
+    (med_same net a.sender b.sender r.source s.source f g a.row.med.high b.row.med.low)))
+
+from_its_sender : (net : NetValue) (source : Source) → HasSender net source → IsFrom net (learned_from net source) source
+from_its_sender net Local h = tt
+from_its_sender net (Learned arc) h = subst (λ (o : Option ℕ). IsFrom net o (Learned arc)) (sym h.1) h.1
+
+pub beats_of_routes : (net : NetValue) (r s : Route) → HasSender net r.source → HasSender net s.source →
+    beats (candidate_of net r) (candidate_of net s) ≡ is_better net r s
+beats_of_routes net r s h k = beats_is_exact net (candidate_of net r) (candidate_of net s) r s
+    (record { weight = refl; preference = refl; length = refl; origin = refl; med = refl })
+    (record { weight = refl; preference = refl; length = refl; origin = refl; med = refl })
+    (from_its_sender net r.source h) (from_its_sender net s.source k)
+
+pub route_is_of : (net : NetValue) (route : Route) → route.communities < 2 ^ 64 → HasSender net route.source → IsOf net (candidate_of net route) route
+route_is_of net route small h = ((exact_is_least route small).fits, from_its_sender net route.source h)

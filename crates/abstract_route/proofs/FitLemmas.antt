@@ -125,7 +125,7 @@ bottom_fits_none t f = let q = f.weight in omega arith
 
 -- ---- the exact row
 
-has_others : (c x : ℕ) → c < 2 ^ 64 → x < 64 → has (bit_not w64 c) x ≡ not (has c x)
+pub has_others : (c x : ℕ) → c < 2 ^ 64 → x < 64 → has (bit_not w64 c) x ≡ not (has c x)
 has_others c x small low = let e = bit_at_not w64 c x small low in let l = bit_at-lt c x in go (bit_at (bit_not w64 c) x) (bit_at c x) e l where
   go : (n b : ℕ) → n ≡ 1 - b → b < 2 → (n == 1) ≡ not (b == 1)
   go n b e l = grind (arith, nat_tests)

@@ -2,3 +2,4 @@ pub mod RowLemmas
 pub mod HeightLemmas
 pub mod FitLemmas
 pub mod BeatsLemmas
+pub mod OneRouteLemmas

@@ -1,12 +1,15 @@
 -- What is true of all rows and routes.
 use Rattle.std.specs.Prelude.{◌≡◌, ◌<◌, ◌≤◌, ◌*◌, ◌^◌, ◌↔◌, true, length, All}
+use Rattle.net_types.specs.declared.arcs.Arc.{Arc}
 use Rattle.abstract_route.specs.declared.candidates.Candidate.{Candidate}
 use Rattle.abstract_route.specs.declared.rows.Row.{Row}
-use Rattle.abstract_route.specs.Beats.{beats, IsOf}
-use Rattle.abstract_route.specs.Fits.{Fits, IsExact, exact_row}
+use Rattle.abstract_route.specs.Beats.{beats, candidate_of, HasSender, IsBest, IsFrom, IsOf, IsWorst}
+use Rattle.abstract_route.specs.Fits.{Fits, IsExact, IsIn, exact_row}
 use Rattle.abstract_route.specs.Heights.{row_rank}
+use Rattle.abstract_route.specs.OneRoute.{HasRoom, IsLike}
 use Rattle.abstract_route.specs.Rows.{IsBelow, IsJoin, IsRow, IsInhabited, carried_row, joined, inhabited, bottom}
 use Rattle.net_types.specs.declared.routes.Route.{Route}
+use Rattle.net_types.specs.declared.routes.Source.TheVariants.{Local, Learned}
 use Rattle.net_types.specs.Better.{is_better}
 use Rattle.net_types.specs.NetValue.{NetValue}
 
@@ -61,6 +64,10 @@ InhabitedIs = (row : Row) → (inhabited row ≡ true) ↔ IsInhabited row
 abbrev pub InhabitedUp : Type 0
 InhabitedUp = (a b : Row) → IsBelow a b → IsInhabited a → IsInhabited b
 
+-- an inhabited row has a route, where there is an origin and a path in its ranges
+abbrev pub InhabitedHasRoute : Type 0
+InhabitedHasRoute = (row : Row) → IsRow row → IsInhabited row → row.origin.low ≤ 2 → HasRoom row → (route : Route) × Fits route row
+
 -- what fits a row fits each row above
 abbrev pub FitsUp : Type 0
 FitsUp = (route : Route) (a b : Row) → IsBelow a b → Fits route a → Fits route b
@@ -79,7 +86,23 @@ ExactIsRow =
     (route : Route) → route.weight < 2 ^ 64 → route.preference < 2 ^ 64 → length route.path < 2 ^ 64 → route.med < 2 ^ 64 →
     route.communities < 2 ^ 64 → All (λ x. x < 64) route.path → IsRow (exact_row route)
 
--- what an arc carries is a row of 64-bit words where its row is
+-- no other route fits it
+abbrev pub ExactFitsOne : Type 0
+ExactFitsOne = (route other : Route) → route.communities < 2 ^ 64 → Fits other (exact_row route) → IsLike other route
+
+-- a local route is in its exact row, with its own MED
+abbrev pub LocalIsIn : Type 0
+LocalIsIn = (route : Route) → route.communities < 2 ^ 64 → route.source ≡ Local → IsIn route (exact_row route)
+
+-- a learned route is in it with MED 0
+abbrev pub LearnedIsIn : Type 0
+LearnedIsIn = (route : Route) (arc : Arc) → route.communities < 2 ^ 64 → route.source ≡ Learned arc → IsIn route (carried_row (exact_row route))
+
+-- of one route, the row that a learned route is kept in is the exact row of the route with MED 0
+abbrev pub CarriedIsExact : Type 0
+CarriedIsExact = (route : Route) → carried_row (exact_row route) ≡ exact_row (record route { med = 0 })
+
+-- the row that a learned route is kept in is a row of 64-bit words where its row is
 abbrev pub CarriedIsRow : Type 0
 CarriedIsRow = (row : Row) → IsRow row → IsRow (carried_row row)
 
@@ -87,7 +110,7 @@ CarriedIsRow = (row : Row) → IsRow row → IsRow (carried_row row)
 abbrev pub CarriedUp : Type 0
 CarriedUp = (a b : Row) → IsBelow a b → IsBelow (carried_row a) (carried_row b)
 
--- a route that fits a row fits what an arc carries of it, with MED 0
+-- with MED 0, a route that fits a row fits the row that it is kept in
 abbrev pub CarriedFits : Type 0
 CarriedFits = (route : Route) (row : Row) → Fits route row → Fits (record route { med = 0 }) (carried_row row)
 
@@ -96,3 +119,19 @@ abbrev pub BeatsIsSound : Type 0
 BeatsIsSound =
     (net : NetValue) (a b : Candidate) (r s : Route) → beats a b ≡ true →
     IsOf net a r → IsOf net b s → is_better net r s ≡ true
+
+-- it beats another exactly where the route that is its worst at each step is better than the best of the other
+abbrev pub BeatsIsExact : Type 0
+BeatsIsExact =
+    (net : NetValue) (a b : Candidate) (r s : Route) → IsWorst r a.row → IsBest s b.row →
+    IsFrom net a.sender r.source → IsFrom net b.sender s.source → beats a b ≡ is_better net r s
+
+-- of candidates of one route each, the one whose route is better beats the other, and no other does
+abbrev pub BeatsOfRoutes : Type 0
+BeatsOfRoutes =
+    (net : NetValue) (r s : Route) → HasSender net r.source → HasSender net s.source →
+    beats (candidate_of net r) (candidate_of net s) ≡ is_better net r s
+
+-- a route is one of its candidate's
+abbrev pub RouteIsOf : Type 0
+RouteIsOf = (net : NetValue) (route : Route) → route.communities < 2 ^ 64 → HasSender net route.source → IsOf net (candidate_of net route) route

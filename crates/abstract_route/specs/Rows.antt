@@ -44,11 +44,11 @@ joined a b = record {
   must = bit_and a.must b.must;
 }
 
--- the range of no number that lies in each other: from the greatest number of 64 bits down to 0
+-- the empty range that lies in each range of 64-bit numbers: from the greatest of them down to 0
 abbrev pub nowhere : Range
 nowhere = record { low = 18446744073709551615; high = 0 }
 
--- the row of no route
+-- the least row, of no route; other rows have none too
 abbrev pub bottom : Row
 bottom = record { weight = nowhere; preference = nowhere; length = nowhere; origin = nowhere; med = nowhere; has = 0; lacks = 0; may = 0; must = 18446744073709551615 }
 
@@ -62,7 +62,7 @@ pub record IsRow (r : Row) : Type 0 where
 abbrev pub single : ℕ → Range
 single n = record { low = n; high = n }
 
--- the row of what an arc carries to the next router, with MED 0
+-- the row that a learned route is kept in: the MED that it is announced with in turn is 0
 abbrev pub carried_row : Row → Row
 carried_row row = record row { med = single 0 }
 

@@ -2,7 +2,7 @@
 //! does nothing, and `bottom_value` says what `BOTTOM` is.
 
 ghost use Rattle.std.specs.Prelude.{◌≡◌};
-ghost use Rattle.abstract_route.specs.Laws.{BelowIsReflexive, BelowIsTransitive, BelowIsAntisymmetric, JoinIsLeast, JoinIsRow, BottomIsRow, BottomIsBelow, BottomFitsNone, RankRises, RankIsStrict, RankIsBounded, InhabitedIs, InhabitedUp, FitsUp, FitIsInhabited, ExactIsLeast, ExactIsRow, CarriedIsRow, CarriedUp, CarriedFits, BeatsIsSound};
+ghost use Rattle.abstract_route.specs.Laws.{BelowIsReflexive, BelowIsTransitive, BelowIsAntisymmetric, JoinIsLeast, JoinIsRow, BottomIsRow, BottomIsBelow, BottomFitsNone, RankRises, RankIsStrict, RankIsBounded, InhabitedIs, InhabitedUp, InhabitedHasRoute, FitsUp, FitIsInhabited, ExactIsLeast, ExactIsRow, ExactFitsOne, LocalIsIn, LearnedIsIn, CarriedIsRow, CarriedIsExact, CarriedUp, CarriedFits, BeatsIsSound, BeatsIsExact, BeatsOfRoutes, RouteIsOf};
 ghost use Rattle.abstract_route.specs.Rows.{bottom};
 
 use crate::{BOTTOM, Row};
@@ -37,10 +37,12 @@ pub fn rank_laws()
     ensures bounded { RankIsBounded }
 {}
 
-/// The test for an inhabited row is exact, and each row above an inhabited one is inhabited.
+/// The test for an inhabited row is exact, each row above an inhabited one is inhabited, and an inhabited row
+/// has a route, where there is an origin and a path in its ranges.
 pub fn inhabited_law()
     ensures test { InhabitedIs }
     ensures up { InhabitedUp }
+    ensures route { InhabitedHasRoute }
 {}
 
 /// A route that fits a row fits each row above, and only inhabited rows have routes that fit.
@@ -49,15 +51,23 @@ pub fn fits_law()
     ensures inhabited { FitIsInhabited }
 {}
 
-/// Each route has an exact row, the least that it fits.
+/// Each route has an exact row, the least that it fits, and no other route fits it.
 pub fn exact_law()
     ensures least { ExactIsLeast }
     ensures row { ExactIsRow }
+    ensures one { ExactFitsOne }
 {}
 
-/// What an arc carries of a row grows with the row, and speaks of the row's routes with MED 0.
+/// A route is in its exact row with the MED that an export carries: its own where it is local, else 0.
+pub fn in_law()
+    ensures local { LocalIsIn }
+    ensures learned { LearnedIsIn }
+{}
+
+/// The row that a learned route is kept in grows with its row, and speaks of the row's routes with MED 0.
 pub fn carried_laws()
     ensures row { CarriedIsRow }
+    ensures exact { CarriedIsExact }
     ensures up { CarriedUp }
     ensures fits { CarriedFits }
 {}
@@ -65,4 +75,12 @@ pub fn carried_laws()
 /// Where a candidate beats another, each of its routes is better than each of the other's.
 pub fn beats_law()
     ensures { BeatsIsSound }
+{}
+
+/// A candidate beats another exactly where its worst route is better than the best of the other; where each has
+/// one route, exactly where that route is better.
+pub fn beats_exactly_law()
+    ensures worst { BeatsIsExact }
+    ensures routes { BeatsOfRoutes }
+    ensures own { RouteIsOf }
 {}

@@ -19,7 +19,7 @@ mod tests;
 pub use candidates::{Candidate, beats};
 pub use fitting::contains;
 pub use laws::{
-    beats_law, bottom_law, bottom_value, carried_laws, exact_law, fits_law, inhabited_law,
-    order_laws, rank_laws,
+    beats_exactly_law, beats_law, bottom_law, bottom_value, carried_laws, exact_law, fits_law,
+    in_law, inhabited_law, order_laws, rank_laws,
 };
 pub use rows::{BOTTOM, Range, Row, carried, is_below, is_inhabited, join};

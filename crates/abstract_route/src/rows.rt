@@ -1,7 +1,7 @@
 //! Rows, their order and their join.
 
-ghost use Rattle.std.specs.Prelude.{◌≡◌, ◌↔◌, IsTrue, nat_le};
-ghost use Rattle.abstract_route.specs.Rows.{IsBelow, IsInhabited, Lies, carried_row, hull_of, inhabited, joined};
+ghost use Rattle.std.specs.Prelude.{◌≡◌, ◌<◌, ◌^◌, ◌↔◌, IsTrue, nat_le};
+ghost use Rattle.abstract_route.specs.Rows.{IsBelow, IsInhabited, IsRow, Lies, carried_row, hull_of, inhabited, joined};
 
 use net_types::Bits64;
 
@@ -52,6 +52,30 @@ pub const BOTTOM: Row = Row {
     may: Bits64::EMPTY,
     must: Bits64::FULL,
 };
+
+impl Row {
+    /// Learns that each word is a 64-bit number, which the laws ask of a row.
+    pub fn fits(&self)
+        ensures { IsRow self.now }
+    {
+        range_fits(self.weight);
+        range_fits(self.preference);
+        range_fits(self.length);
+        range_fits(self.origin);
+        range_fits(self.med);
+        self.has.fits();
+        self.lacks.fits();
+        self.may.fits();
+        self.must.fits();
+    }
+}
+
+fn range_fits(range: Range)
+    ensures { (range.low < 2 ^ 64) × (range.high < 2 ^ 64) }
+{
+    let _low = range.low;
+    let _high = range.high;
+}
 
 /// The least row above both.
 pub fn join(a: &Row, b: &Row) -> Row
@@ -121,7 +145,7 @@ fn is_some(range: Range) -> bool
     range.low <= range.high
 }
 
-/// The row of what an arc carries to the next router: the MED alone changes, to 0.
+/// The row that a learned route is kept in: the MED alone changes, to the 0 that it is announced with in turn.
 pub fn carried(a: &Row) -> Row
     ensures { result ≡ carried_row a.now }
 {

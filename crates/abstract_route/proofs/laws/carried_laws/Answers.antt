@@ -1,3 +1,4 @@
+use Rattle.std.proofs.Common.{refl}
 use Rattle.abstract_route.proofs.FitLemmas.{carried_is_row, carried_up, carried_fits}
 use Rattle.abstract_route.proofs.laws.carried_laws.Goals as goal
 
@@ -9,3 +10,6 @@ returns-clause-up c = carried_up
 
 pub returns-clause-fits : goal.returns-clause-fits
 returns-clause-fits c = carried_fits
+
+pub returns-clause-exact : goal.returns-clause-exact
+returns-clause-exact c = λ route. refl

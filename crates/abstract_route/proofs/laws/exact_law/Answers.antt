@@ -1,4 +1,5 @@
 use Rattle.abstract_route.proofs.FitLemmas.{exact_is_least, exact_is_row}
+use Rattle.abstract_route.proofs.OneRouteLemmas.{exact_fits_one}
 use Rattle.abstract_route.proofs.laws.exact_law.Goals as goal
 
 pub returns-clause-least : goal.returns-clause-least
@@ -6,3 +7,6 @@ returns-clause-least c = exact_is_least
 
 pub returns-clause-row : goal.returns-clause-row
 returns-clause-row c = exact_is_row
+
+pub returns-clause-one : goal.returns-clause-one
+returns-clause-one c = exact_fits_one

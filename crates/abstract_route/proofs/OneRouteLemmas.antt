@@ -1,0 +1,188 @@
+-- What one route and its exact row say of each other, and the route that an inhabited row has.
+use Rattle.std.proofs.Common.{ℕ, ◌≡◌, ◌≢◌, ◌<◌, ◌≤◌, ◌==◌, ◌-◌, ◌+◌, ◌^◌, ◌&&◌, ◌||◌, ◌⊎◌, inl, inr, Bool, true, false, not, List, ◌++◌, length, length-append, replicate, arith, ap, sym, subst, ◌∙◌, refl, zero, suc}
+use Rattle.std.specs.List.{range_with_len}
+use Rattle.std.proofs.lemmas.Bool.Decides.{nat_tests}
+use Rattle.std.proofs.lemmas.List.{length-replicate}
+use Rattle.std.proofs.lemmas.List.Folds.{list_any-append}
+use Rattle.std.proofs.lemmas.Map.Views.{any-filter_same}
+use Rattle.std.proofs.lemmas.Nat.Bits.{bit_at_above}
+use Rattle.net_types.specs.declared.config.Origin.{Origin}
+use Rattle.net_types.specs.declared.config.Origin.TheVariants.{Igp, Egp, Incomplete}
+use Rattle.net_types.specs.declared.arcs.Arc.{Arc}
+use Rattle.net_types.specs.declared.routes.Route.{Route}
+use Rattle.net_types.specs.declared.routes.Source.TheVariants.{Local, Learned}
+use Rattle.net_types.specs.Better.{origin_rank}
+use Rattle.net_types.specs.Sets.{has}
+use Rattle.net_types.proofs.SetLemmas.{bit_from}
+use Rattle.abstract_route.specs.declared.rows.Row.{Row}
+use Rattle.abstract_route.specs.Rows.{IsInhabited, IsRow, carried_row}
+use Rattle.abstract_route.specs.Fits.{Fits, IsIn, exact_row, exported_med, on_path}
+use Rattle.abstract_route.specs.OneRoute.{HasRoom, IsLike, members}
+use Rattle.abstract_route.proofs.RowLemmas.{part_refl, part_anti}
+use Rattle.abstract_route.proofs.FitLemmas.{exact_is_least, has-routers_of, has_others}
+
+-- ---- no other route fits the exact row
+
+same_origin : (o p : Origin) → origin_rank o ≡ origin_rank p → o ≡ p
+same_origin Igp Igp e = refl
+same_origin Igp Egp e = absurd (cc)
+same_origin Igp Incomplete e = absurd (cc)
+same_origin Egp Igp e = absurd (cc)
+same_origin Egp Egp e = refl
+same_origin Egp Incomplete e = absurd (cc)
+same_origin Incomplete Igp e = absurd (cc)
+same_origin Incomplete Egp e = absurd (cc)
+same_origin Incomplete Incomplete e = refl
+
+both_ways : (p q : Bool) → (p ≡ true → q ≡ true) → (q ≡ true → p ≡ true) → p ≡ q
+both_ways true true f g = refl
+both_ways true false f g = sym (f refl)
+both_ways false true f g = g refl
+both_ways false false f g = refl
+
+member_below : (set x : ℕ) → set < 2 ^ 64 → has set x ≡ true → x < 64
+member_below set x small h = elim (cases x) [
+  | inl low ↦ low
+  | inr high ↦ absurd (let e = bit_from set x h in let f = bit_at_above set 64 x small high in omega arith)
+] where
+  cases : (x : ℕ) → (x < 64) ⊎ (64 ≤ x)
+  cases x = grind arith
+
+pub exact_fits_one : (route other : Route) → route.communities < 2 ^ 64 → Fits other (exact_row route) → IsLike other route
+exact_fits_one t o small f = record {
+  weight = (let p = f.weight in omega arith);
+  preference = (let p = f.preference in omega arith);
+  length = (let p = f.length in omega arith);
+  origin = same_origin o.origin t.origin (let p = f.origin in omega arith);
+  med = (let p = f.med in omega arith);
+  communities = part_anti o.communities t.communities f.held
+      (record {
+        members = λ x h. let low = member_below t.communities x small h in
+            kept (has o.communities x) (has t.communities x) h (λ off. sym (has_others t.communities x small low) ∙ f.lacked x low off);
+      });
+  routers = λ x. both_ways (on_path x o.path) (on_path x t.path)
+      (λ on. sym (has-routers_of t.path x) ∙ f.may x on)
+      (λ on. f.must x (has-routers_of t.path x ∙ on));
+} where
+  kept : (p q : Bool) → q ≡ true → (p ≡ false → not q ≡ true) → p ≡ true
+  kept true q e f = refl
+  kept false true e f = f refl
+  kept false false e f = e
+
+-- ---- the route in its row, with the MED that an export carries
+
+pub local_is_in : (route : Route) → route.communities < 2 ^ 64 → route.source ≡ Local → IsIn route (exact_row route)
+local_is_in t small e = subst (λ n. Fits (record t { med = n }) (exact_row t)) (sym (ap (λ s. exported_med s t.med) e)) (exact_is_least t small).fits
+
+pub learned_is_in : (route : Route) (arc : Arc) → route.communities < 2 ^ 64 → route.source ≡ Learned arc → IsIn route (carried_row (exact_row route))
+learned_is_in t arc small e = subst (λ n. Fits (record t { med = n }) (carried_row (exact_row t))) (sym (ap (λ s. exported_med s t.med) e))
+    (exact_is_least (record t { med = 0 }) small).fits
+
+-- ---- the route of an inhabited row
+
+on_append : (x : ℕ) (path more : List ℕ) → on_path x (path ++ more) ≡ (on_path x path || on_path x more)
+on_append x path more = list_any-append (λ y. x == y) path more
+
+in_range : (a n x : ℕ) → a ≤ x → x < a + n → on_path x (range_with_len a n) ≡ true
+in_range a zero x p q = absurd (omega arith)
+in_range a (suc n) x p q = elim (cases a x) [
+  | inl same ↦ here (x == a) (on_path x (range_with_len (a + 1) n)) (grind (arith, nat_tests))
+  | inr other ↦ there (x == a) (on_path x (range_with_len (a + 1) n)) (in_range (a + 1) n x (omega arith) (omega arith))
+] where
+  cases : (a x : ℕ) → (x ≡ a) ⊎ (x ≢ a)
+  cases a x = grind arith
+
+  here : (p q : Bool) → p ≡ true → (p || q) ≡ true
+  here p q e = rw e refl
+
+  there : (p q : Bool) → q ≡ true → (p || q) ≡ true
+  there true q e = refl
+  there false q e = e
+
+on_members : (set x : ℕ) → on_path x (members set) ≡ (has set x && on_path x (range_with_len 0 64))
+on_members set x = any-filter_same (λ y. x == y) (λ y. has set y) (has set x) (λ y e. ap (λ n. has set n) (grind (arith, nat_tests))) (range_with_len 0 64)
+
+member_on : (set x : ℕ) → set < 2 ^ 64 → has set x ≡ true → on_path x (members set) ≡ true
+member_on set x small h =
+    on_members set x ∙ and_true (has set x) (on_path x (range_with_len 0 64)) h (in_range 0 64 x (omega arith) (member_below set x small h)) where
+      and_true : (p q : Bool) → p ≡ true → q ≡ true → (p && q) ≡ true
+      and_true p q e f = rw (e, f) refl
+
+on_member : (set x : ℕ) → on_path x (members set) ≡ true → has set x ≡ true
+on_member set x on = left (has set x) (on_path x (range_with_len 0 64)) (sym (on_members set x) ∙ on) where
+  left : (p q : Bool) → (p && q) ≡ true → p ≡ true
+  left true q e = refl
+  left false q e = absurd (cc)
+
+on_copies : (x y n : ℕ) → on_path x (replicate n y) ≡ true → x ≡ y
+on_copies x y zero on = absurd (cc)
+on_copies x y (suc n) on = first (x == y) (on_path x (replicate n y)) (λ e. grind (arith, nat_tests)) (on_copies x y n) on where
+  first : (p q : Bool) → (p ≡ true → x ≡ y) → (q ≡ true → x ≡ y) → (p || q) ≡ true → x ≡ y
+  first true q f g e = f refl
+  first false q f g e = g e
+
+-- a path of as many entries as the row asks for, with the routers that are on every path and none that may not be
+record IsPathOf (row : Row) (path : List ℕ) : Type 0 where
+  least : row.length.low ≤ length path
+  greatest : length path ≤ row.length.high
+  may : (x : ℕ) → on_path x path ≡ true → has row.may x ≡ true
+  must : (x : ℕ) → has row.must x ≡ true → on_path x path ≡ true
+
+either : (p q : Bool) (P : Type 0) → (p ≡ true → P) → (q ≡ true → P) → (p || q) ≡ true → P
+either true q P f g e = f refl
+either false q P f g e = g e
+
+has_path : (row : Row) → IsRow row → IsInhabited row → HasRoom row → (path : List ℕ) × IsPathOf row path
+has_path row words h room = go room.some where
+  go : ((row.length.low ≡ 0) ⊎ ((x : ℕ) × (has row.may x ≡ true))) → (path : List ℕ) × IsPathOf row path
+  go (inl none) = (
+    members row.must,
+    record {
+      least = omega arith;
+      greatest = room.few;
+      may = λ x on. h.routers.members x (on_member row.must x on);
+      must = λ x m. member_on row.must x words.sets.3 m;
+    },
+  )
+  go (inr (y, filler)) = (
+    members row.must ++ replicate (row.length.low - length (members row.must)) y,
+    record {
+      least = (let e = length-append (members row.must) (replicate (row.length.low - length (members row.must)) y) in
+          let f = length-replicate (row.length.low - length (members row.must)) y in omega arith);
+      greatest = (let e = length-append (members row.must) (replicate (row.length.low - length (members row.must)) y) in
+          let f = length-replicate (row.length.low - length (members row.must)) y in let g = room.few in let k = h.length in omega arith);
+      may = λ x on. either (on_path x (members row.must)) (on_path x (replicate (row.length.low - length (members row.must)) y)) (has row.may x ≡ true)
+          (λ m. h.routers.members x (on_member row.must x m))
+          (λ c. ap (λ n. has row.may n) (on_copies x y (row.length.low - length (members row.must)) c) ∙ filler)
+          (sym (on_append x (members row.must) (replicate (row.length.low - length (members row.must)) y)) ∙ on);
+      must = λ x m. on_append x (members row.must) (replicate (row.length.low - length (members row.must)) y) ∙
+          ap (λ (b : Bool). b || on_path x (replicate (row.length.low - length (members row.must)) y)) (member_on row.must x words.sets.3 m);
+    },
+  )
+
+origin_at : (n : ℕ) → n ≤ 2 → (o : Origin) × (origin_rank o ≡ n)
+origin_at zero h = (Igp, refl)
+origin_at (suc zero) h = (Egp, refl)
+origin_at (suc (suc zero)) h = (Incomplete, refl)
+origin_at (suc (suc (suc n))) h = absurd (omega arith)
+
+or_right : (p q : Bool) → (p || q) ≡ true → p ≡ false → q ≡ true
+or_right true q e f = absurd (cc)
+or_right false q e f = e
+
+pub inhabited_has_route : (row : Row) → IsRow row → IsInhabited row → row.origin.low ≤ 2 → HasRoom row → (route : Route) × Fits route row
+inhabited_has_route row words h low room =
+    let p = has_path row words h room in let o = origin_at row.origin.low low in (
+      record { weight = row.weight.low; preference = row.preference.low; path = p.0; origin = o.0; med = row.med.low; communities = row.has; source = Local },
+      record {
+        weight = (omega arith, h.weight);
+        preference = (omega arith, h.preference);
+        length = (p.1.least, p.1.greatest);
+        origin = (let e = o.1 in omega arith, let e = o.1 in let f = h.origin in omega arith);
+        med = (omega arith, h.med);
+        held = part_refl row.has;
+        lacked = λ x below off. or_right (has row.has x) (has row.lacks x) (h.communities x below) off;
+        may = p.1.may;
+        must = p.1.must;
+      },
+    )
