@@ -15,7 +15,7 @@ inside_or_not : (u n : ℕ) → (u < n) ⊎ (n ≤ u)
 inside_or_not u n = grind arith
 
 -- an entry that is there is a router's
-at_inside : (ds : List (Option ℕ)) (u d : ℕ) → distance_at ds u ≡ Some d → u < length ds
+pub at_inside : (ds : List (Option ℕ)) (u d : ℕ) → distance_at ds u ≡ Some d → u < length ds
 at_inside ds u d is = elim (inside_or_not u (length ds)) [
   | inl low ↦ low
   | inr past ↦ (let c : None ≡ Some d = sym (get_or_past ds u None past) ∙ is in cc)

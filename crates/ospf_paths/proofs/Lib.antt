@@ -4,4 +4,5 @@ pub mod LawLemmas
 pub mod Existence
 pub mod ListLemmas
 pub mod SlackLinks
+pub mod FailureLaws
 pub mod TriangleLemmas

@@ -1,8 +1,9 @@
 -- What is true of the distances of every network, prefix and failure set.
-use Rattle.std.specs.Prelude.{ℕ, ◌≡◌, ◌≢◌, ◌<◌, ◌^◌, ◌↔◌, ◌∷◌, true, false, List, Option, Some, All}
+use Rattle.std.specs.Prelude.{ℕ, ◌≡◌, ◌≢◌, ◌<◌, ◌≤◌, ◌^◌, ◌↔◌, [], ◌∷◌, true, false, List, Option, Some, None, All, Contains, map, slice_get}
 use Rattle.net_types.specs.declared.arcs.Arc.{Arc}
+use Rattle.net_types.specs.declared.network.Link.{Link}
 use Rattle.net_types.specs.Distance.{IsWalk, AreDistances, distance_at, IsTight, HasHop}
-use Rattle.net_types.specs.FailSets.{holds}
+use Rattle.net_types.specs.FailSets.{holds, without}
 use Rattle.net_types.specs.NetFacts.{IsNet}
 use Rattle.net_types.specs.NetValue.{NetValue}
 use Rattle.net_types.specs.Owners.{owns}
@@ -77,3 +78,39 @@ SlackLinksKeepTightArcs =
     (net : NetValue) (failed more : List ℕ) (link : ℕ) (distances : List (Option ℕ)) →
     IsWith failed link more → ((arc : Arc) → IsTightArc net failed distances arc → arc.link ≢ link) →
     (arc : Arc) (u v : ℕ) → IsTight net failed distances arc u v ↔ IsTight net more distances arc u v
+
+-- a failure set is what is left of it without one of its links, with that link
+abbrev pub HeldLinksComeBack : Type 0
+HeldLinksComeBack = (set : List ℕ) (link : ℕ) → holds set link ≡ true → IsWith (without set link) link set
+
+-- with more links failed, a router that has a distance had one before that was no greater
+abbrev pub FailuresLengthen : Type 0
+FailuresLengthen =
+    (net : NetValue) (prefix : PrefixValue) (failed more : List ℕ) (before after : List (Option ℕ)) →
+    AreDistances net prefix failed before → AreDistances net prefix more after → ((link : ℕ) → holds failed link ≡ true → holds more link ≡ true) →
+    (u far : ℕ) → distance_at after u ≡ Some far →
+    (near : ℕ) × (distance_at before u ≡ Some near) × (near ≤ far)
+
+-- the other network has the same routers, and the same links but that these are no adjacencies
+pub record LacksLinks (net : NetValue) (links : List ℕ) (other : NetValue) : Type 0 where
+  pub routers : other.routers ≡ net.routers
+  pub past : (k : ℕ) → slice_get net.links k ≡ None → slice_get other.links k ≡ None
+  pub lacking : (k : ℕ) (link : Link) → slice_get net.links k ≡ Some link → Contains links k → slice_get other.links k ≡ Some (record link { adjacency = false })
+  pub kept : (k : ℕ) (link : Link) → slice_get net.links k ≡ Some link → (Contains links k → ⊥) → slice_get other.links k ≡ Some link
+
+-- a link that has failed counts as one that is no adjacency
+abbrev pub FailingIsLacking : Type 0
+FailingIsLacking =
+    (net other : NetValue) (prefix : PrefixValue) (failed : List ℕ) (distances : List (Option ℕ)) → LacksLinks net failed other →
+    AreDistances net prefix failed distances ↔ AreDistances other prefix [] distances
+
+-- the link with its ends in the other order
+abbrev pub turned : Link → Link
+turned link = record link { low = link.high; high = link.low }
+
+-- no distance hangs on which end of a link is called the low one
+abbrev pub EndsAreAlike : Type 0
+EndsAreAlike =
+    (net other : NetValue) (prefix : PrefixValue) (failed : List ℕ) (distances : List (Option ℕ)) →
+    other.routers ≡ net.routers → other.links ≡ map turned net.links →
+    AreDistances net prefix failed distances → AreDistances other prefix failed distances

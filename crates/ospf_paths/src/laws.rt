@@ -1,7 +1,7 @@
 //! What is true of the distances of every network, stated over definitions: each law is the contract of
 //! a function that does nothing.
 
-ghost use Rattle.ospf_paths.specs.Laws.{FarRoutersHop, TightArcsApproach, LeastWalksGoOn, LeastWalksAreTight, DistancesAreOne, DistancesAreSmall, DistanceListIs, SlackLinksKeepDistances, SlackLinksKeepTightArcs};
+ghost use Rattle.ospf_paths.specs.Laws.{FarRoutersHop, TightArcsApproach, LeastWalksGoOn, LeastWalksAreTight, DistancesAreOne, DistancesAreSmall, DistanceListIs, SlackLinksKeepDistances, SlackLinksKeepTightArcs, HeldLinksComeBack, FailuresLengthen, FailingIsLacking, EndsAreAlike};
 
 /// A router with a distance that is no owner has a next hop.
 pub fn law_of_hops()
@@ -42,4 +42,24 @@ pub fn law_of_distance_list()
 pub fn law_of_slack_links()
     ensures distances { SlackLinksKeepDistances }
     ensures arcs { SlackLinksKeepTightArcs }
+{}
+
+/// A failure set is what is left of it without one of its links, with that link.
+pub fn law_of_held_links()
+    ensures { HeldLinksComeBack }
+{}
+
+/// Failures bring no router nearer, and give none a distance.
+pub fn law_of_more_failures()
+    ensures { FailuresLengthen }
+{}
+
+/// The failure of links does what it does that they are no adjacencies.
+pub fn law_of_failed_links()
+    ensures { FailingIsLacking }
+{}
+
+/// Both ends of a link are treated alike.
+pub fn law_of_ends()
+    ensures { EndsAreAlike }
 {}
