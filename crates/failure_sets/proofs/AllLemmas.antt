@@ -5,10 +5,19 @@ use Rattle.std.proofs.lemmas.List.Sums.{sum_by-cons}
 use Rattle.std.proofs.lemmas.Bool.{cases_lt, false_from_ne_true}
 use Rattle.failure_sets.specs.SetOrder.{comes_before}
 use Rattle.failure_sets.specs.SetList.{sets_of, failure_sets}
-use Rattle.failure_sets.specs.Places.{how_many, place_among, smaller, ranked}
+use Rattle.failure_sets.specs.Places.{how_many, place_among}
 use Rattle.failure_sets.proofs.CountLemmas.{how_many-mono, choose-none}
 use Rattle.failure_sets.proofs.ListLemmas.{IsWithin, get_front, get_back, length-sets_of, entry, found, found_front}
 use Rattle.failure_sets.proofs.OrderLemmas.{place_rises, before_total, before_cases}
+
+-- how many sets are smaller
+unfoldable pub smaller : ℕ → ℕ → ℕ
+smaller links zero = 0
+smaller links (suc size) = how_many links size
+
+-- the place of a set among all
+unfoldable pub ranked : ℕ → List ℕ → ℕ
+ranked links set = smaller links (length set) + place_among links 0 set
 
 pub length-failure_sets : (links most : ℕ) → length (failure_sets links most) ≡ how_many links most
 unfolding failure_sets how_many

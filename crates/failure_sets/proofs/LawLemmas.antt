@@ -8,12 +8,12 @@ use Rattle.std.specs.List.{list_any}
 use Rattle.net_types.specs.FailSets.{without}
 use Rattle.failure_sets.specs.SetOrder.{IsPermitted, comes_before, IsLeastAfter, IsLast}
 use Rattle.failure_sets.specs.SetList.{failure_sets, place_of, next_of}
-use Rattle.failure_sets.specs.Places.{ranked, smaller, place_among}
+use Rattle.failure_sets.specs.Places.{place_among}
 use Rattle.failure_sets.specs.Laws.{HoldsThePermitted, HoldsEachOnce, StandInOrder, EmptySetIsFirst, PlacesArePositions, NextIsBehind, NextIsLeast, FewerComeEarlier, CountsAreSums, CountsInClosedForm, SumsOfPairsAndTriples}
 use Rattle.failure_sets.proofs.CountLemmas.{choose-none, choose-one, choose-two, choose-three, how_many-next, how_many-none}
 use Rattle.failure_sets.proofs.PermittedLemmas.{within, permitted}
 use Rattle.failure_sets.proofs.OrderLemmas.{before_fewer}
-use Rattle.failure_sets.proofs.AllLemmas.{length-failure_sets, placed, found_in_all, rank_rises, before_by_rank, not_before_by_rank, count_before}
+use Rattle.failure_sets.proofs.AllLemmas.{smaller, ranked, length-failure_sets, placed, found_in_all, rank_rises, before_by_rank, not_before_by_rank, count_before}
 
 pub holds_the_permitted : HoldsThePermitted
 holds_the_permitted links most set = (

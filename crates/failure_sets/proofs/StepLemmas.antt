@@ -4,12 +4,12 @@ use Rattle.std.proofs.lemmas.Option.{slice_get_past}
 use Rattle.std.proofs.lemmas.Bool.{cases_lt}
 use Rattle.failure_sets.specs.SetOrder.{IsPermitted}
 use Rattle.failure_sets.specs.SetList.{sets_of, failure_sets, next_of}
-use Rattle.failure_sets.specs.Places.{choose, how_many, place_among, smaller, ranked}
+use Rattle.failure_sets.specs.Places.{choose, how_many, place_among}
 use Rattle.failure_sets.specs.Steps.{next_in_size, first_of_size}
 use Rattle.failure_sets.proofs.CountLemmas.{choose-mono, choose-pascal, choose-one, choose-none, how_many-mono, how_many-next}
 use Rattle.failure_sets.proofs.ListLemmas.{IsWithin, entry, place_below, length-sets_of, get_front, get_back}
 use Rattle.failure_sets.proofs.PermittedLemmas.{within}
-use Rattle.failure_sets.proofs.AllLemmas.{length-failure_sets, found_in_size, found_in_all}
+use Rattle.failure_sets.proofs.AllLemmas.{smaller, ranked, length-failure_sets, found_in_size, found_in_all}
 use Rattle.failure_sets.proofs.LawLemmas.{next_by_rank}
 
 pub choose_same : (m n size : ℕ) → m ≡ n → choose m size ≡ choose n size

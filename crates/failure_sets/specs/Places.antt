@@ -17,12 +17,3 @@ how_many many (suc most) = how_many many most + choose many (suc most)
 unfoldable pub place_among : ℕ → ℕ → List ℕ → ℕ
 place_among links least [] = 0
 place_among links least (x ∷ rest) = choose (links - least) (suc (length rest)) - choose (links - x) (suc (length rest)) + place_among links (suc x) rest
-
--- how many sets are smaller
-unfoldable pub smaller : ℕ → ℕ → ℕ
-smaller links zero = 0
-smaller links (suc size) = how_many links size
-
--- the place of a set among all
-unfoldable pub ranked : ℕ → List ℕ → ℕ
-ranked links set = smaller links (length set) + place_among links 0 set

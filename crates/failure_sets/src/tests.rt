@@ -1,8 +1,10 @@
 //! Walks through all sets of few links, and numbers of sets of many links.
 
-ghost use Rattle.std.specs.Prelude.{◌≤◌};
+ghost use Rattle.std.specs.Prelude.{◌≤◌, IfSome};
+ghost use Rattle.failure_sets.specs.SetOrder.{IsPermitted};
 
 use crate::{count, first, next, place};
+use net_types::FailSet;
 use std::process::Abort;
 
 // The sets of at most three links below 6, in order. Those of fewer links, and those below a lower number,
@@ -99,5 +101,37 @@ fn counts(rt: HostRuntime) {
     for (name, (links, most), wanted) in cases {
         assert!(rt; links <= 64 && most <= 3);
         assert_eq!(rt; count(links, most), wanted, "{name}");
+    }
+}
+
+// The set of these links, where they are at most three in ascending order, each below `links`.
+fn set_of(set: &[u8], links: u8) -> Option<FailSet>
+    ensures { IfSome result (λ set. IsPermitted links 3 set) }
+{
+    if set.iter().all(|link| *link < links) {
+        FailSet::of(set)
+    } else {
+        None
+    }
+}
+
+// Sets of few of 64 links, with the place of each and the set behind it; the walks end before these.
+const FAR_SETS: [(&[u8], u64, Option<&[u8]>); 7] = [
+    (&[63], 64, Some(&[0, 1])),
+    (&[0, 1], 65, Some(&[0, 2])),
+    (&[62, 63], 2_080, Some(&[0, 1, 2])),
+    (&[0, 1, 2], 2_081, Some(&[0, 1, 3])),
+    (&[0, 1, 63], 2_142, Some(&[0, 2, 3])),
+    (&[0, 62, 63], 4_033, Some(&[1, 2, 3])),
+    (&[61, 62, 63], 43_744, None),
+];
+
+#[test]
+fn far_sets(rt: HostRuntime) {
+    for (links, wanted, behind) in FAR_SETS {
+        let set = set_of(links, 64).expect(&rt, "three ascending links below 64");
+        assert_eq!(rt; place(64, set), wanted);
+        let found = next(64, 3, set);
+        assert!(rt; found.as_ref().map(|next| next.as_slice()) == behind);
     }
 }
