@@ -5,6 +5,6 @@ use Rattle.std.specs.Prelude.{ℕ, ◌+◌, ◌-◌, ◌^◌, ◌≤◌, min}
 abbrev pub risen : ℕ → ℕ
 risen count = min (count + 1) (2 ^ 64 - 1)
 
--- the count rose in a call, or stands at the greatest number that it can hold
+-- the count rose in a call by one at least, or stands at the greatest number that it can hold
 abbrev pub Rose : ℕ → ℕ → Type 0
 Rose before now = risen before ≤ now

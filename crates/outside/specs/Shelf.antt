@@ -5,12 +5,16 @@ use Rattle.outside.specs.declared.shelf.ShelfError.TheVariants.{Failed, Absent, 
 use Rattle.outside.specs.Content.{Content, IsListing, is_folder, bytes_at, first_bytes_at}
 use Rattle.outside.specs.Faults.{Rose}
 
--- the count of faults by the answer of a call: it rose where the call failed, and stands where nothing is there
+-- the count of faults by why a call was not answered: it rose where the call failed, and else stands
+abbrev pub IsRefusal : ℕ → ℕ → ShelfError → Type 0
+IsRefusal before now Failed = Rose before now
+IsRefusal before now Absent = now ≡ before
+IsRefusal before now NoMemory = now ≡ before
+
+-- the same by the whole answer: so a call that failed is never hidden behind another answer
 abbrev pub HasCause : {A : Type 0} → ℕ → ℕ → Result A ShelfError → Type 0
-HasCause before now (Ok a) = Unit {0}
-HasCause before now (Err Failed) = Rose before now
-HasCause before now (Err Absent) = now ≡ before
-HasCause before now (Err NoMemory) = Unit {0}
+HasCause before now (Ok a) = now ≡ before
+HasCause before now (Err refusal) = IsRefusal before now refusal
 
 -- the answer of `list` over the content that is told
 abbrev pub Lists : Content → List ℕ → Result (List (List ℕ)) ShelfError → Type 0
@@ -25,9 +29,3 @@ Reads content path limit (Ok bytes) = first_bytes_at content path limit ≡ Some
 Reads content path limit (Err Failed) = Unit {0}
 Reads content path limit (Err Absent) = bytes_at content path ≡ None
 Reads content path limit (Err NoMemory) = Unit {0}
-
--- why a shelf over real folders did not answer, by the count of faults before and now
-abbrev pub IsRefusal : ℕ → ℕ → ShelfError → Type 0
-IsRefusal before now Failed = Rose before now
-IsRefusal before now Absent = now ≡ before
-IsRefusal before now NoMemory = Unit {0}

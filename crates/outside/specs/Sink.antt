@@ -2,9 +2,9 @@
 use Rattle.std.specs.Prelude.{◌≡◌, ℕ, ◌<◌, ◌≤◌, List, ◌++◌, Option, Some, Result, Ok, Err, length, take}
 use Rattle.outside.specs.Faults.{Rose}
 
--- the count of faults by the answer of a call: it rose where the call failed
+-- the count of faults by the answer of a call: it rose where the call failed, and else stands
 abbrev pub HasCause : {A E : Type 0} → ℕ → ℕ → Result A E → Type 0
-HasCause before now (Ok a) = Unit {0}
+HasCause before now (Ok a) = now ≡ before
 HasCause before now (Err e) = Rose before now
 
 -- how many bytes of a piece may be taken: some where there are any

@@ -10,7 +10,7 @@ use std::alloc::Global;
 use std::marker::Model;
 
 /// Counts the calls of an object in memory from 1, and its faults, and knows which calls fail.
-/// Both counts saturate: no call past the greatest `u64` fails.
+/// Calls past the greatest `u64` have no number, and none of them fails; the count of faults stands still there.
 #[derive(Debug, Drop)]
 pub struct Calls {
     next: Option<u64>,

@@ -29,8 +29,7 @@ impl<R> Model for DirShelf<R> {
 
 impl<R> DirShelf<R> {
     ghost use Rattle.std.specs.Prelude.{◌≡◌, ◌≢◌, ◌≤◌, ◌↔◌};
-    ghost use Rattle.outside.specs.Shelf.{HasCause, IsRefusal};
-    ghost use Rattle.outside.specs.Machine.{Gives, Opens};
+    ghost use Rattle.outside.specs.Machine.{Counts, CountsRefusal, Gives, Opens};
 
     /// The shelf over the files of a runtime, with a count of 0.
     pub fn new(files: R) -> DirShelf<R>
@@ -42,7 +41,7 @@ impl<R> DirShelf<R> {
     // Want of memory, or one more fault.
     fn refused(&mut self, kind: ErrorKind) -> ShelfError
         ensures kept { self.old ≤ self.new }
-        ensures cause { IsRefusal self.old self.new result }
+        ensures count { CountsRefusal self.old self.new result }
         ensures no_memory { (result ≡ ShelfError.NoMemory) ↔ (kind ≡ ErrorKind.OutOfMemory) }
         ensures there { result ≢ ShelfError.Absent }
     {
@@ -58,7 +57,7 @@ impl<R> DirShelf<R> {
     // The same where a path was opened: it may not be there.
     fn not_opened(&mut self, kind: ErrorKind) -> ShelfError
         ensures kept { self.old ≤ self.new }
-        ensures cause { IsRefusal self.old self.new result }
+        ensures count { CountsRefusal self.old self.new result }
         ensures no_memory { (result ≡ ShelfError.NoMemory) ↔ (kind ≡ ErrorKind.OutOfMemory) }
         ensures absent { (result ≡ ShelfError.Absent) ↔ (kind ≡ ErrorKind.NotFound) }
     {
@@ -71,7 +70,7 @@ impl<R> DirShelf<R> {
     // What the machine opened, or why it did not.
     fn opened<T>(&mut self, opened: io::Result<T>) -> Result<T, ShelfError>
         ensures kept { self.old ≤ self.new }
-        ensures cause { HasCause self.old self.new result }
+        ensures count { Counts self.old self.new result }
         ensures value { Opens opened result }
     {
         match opened {
@@ -83,7 +82,7 @@ impl<R> DirShelf<R> {
     // What the machine gave of what was opened, or why it did not.
     fn given<T>(&mut self, given: io::Result<T>) -> Result<T, ShelfError>
         ensures kept { self.old ≤ self.new }
-        ensures cause { HasCause self.old self.new result }
+        ensures count { Counts self.old self.new result }
         ensures value { Gives given result }
     {
         match given {
@@ -94,19 +93,33 @@ impl<R> DirShelf<R> {
 }
 
 impl<R: Files + AllocGlobal + Clone + Drop> Shelf for DirShelf<R> {
-    ghost use Rattle.std.specs.Prelude.{None};
+    ghost use Rattle.std.specs.Prelude.{◌≡◌, ◌≤◌, ℕ, None, Some, IfOk, length};
+    ghost use Rattle.outside.specs.Content.{Content};
+    ghost use Rattle.outside.specs.Machine.{Counts};
+    ghost use Rattle.outside.specs.Shelf.{HasCause, Lists, Reads};
 
     ghost faults = { λ shelf. shelf };
 
     ghost content = { λ _. None };
 
-    fn list(&mut self, alloc: Global, folder: &str) -> Result<List<Text>, ShelfError> {
+    fn list(&mut self, alloc: Global, folder: &str) -> Result<List<Text>, ShelfError>
+        ensures count { Counts self.old self.new result }
+        ensures kept { self.old ≤ self.new }
+        ensures cause { HasCause self.old self.new result }
+        ensures told { (c : Content) → None ≡ Some c → Lists c folder.now result }
+    {
         let opened = fs::read_dir(&self.files, folder);
         let entries = self.opened(opened)?;
         self.given(names(alloc, entries))
     }
 
-    fn read(&mut self, alloc: Global, path: &str, limit: u64) -> Result<List<u8>, ShelfError> {
+    fn read(&mut self, alloc: Global, path: &str, limit: u64) -> Result<List<u8>, ShelfError>
+        ensures count { Counts self.old self.new result }
+        ensures kept { self.old ≤ self.new }
+        ensures cause { HasCause self.old self.new result }
+        ensures within { IfOk result (λ bytes. length bytes ≤ limit) }
+        ensures told { (c : Content) → None ≡ Some c → Reads c path.now limit result }
+    {
         let opened = File::open(&self.files, path);
         let file = self.opened(opened)?;
         self.given(first_bytes(alloc, file, limit))

@@ -23,11 +23,21 @@ impl<W> OutSink<W> {
 }
 
 impl<W: Write + Drop> Sink for OutSink<W> {
+    ghost use Rattle.std.specs.Prelude.{◌≡◌, ◌≤◌, ℕ, List, Some};
+    ghost use Rattle.outside.specs.Machine.{CountsGiven};
+    ghost use Rattle.outside.specs.Sink.{HasCause, Takes, Appends};
+
     ghost faults = { λ sink. sink.faults };
 
     ghost given = { λ sink. W.contents sink.writer };
 
-    fn give(&mut self, bytes: &[u8]) -> Result<usize, Failed> {
+    fn give(&mut self, bytes: &[u8]) -> Result<usize, Failed>
+        ensures count { CountsGiven self.old.faults self.new.faults result }
+        ensures kept { self.old.faults ≤ self.new.faults }
+        ensures cause { HasCause self.old.faults self.new.faults result }
+        ensures takes { Takes bytes.now result }
+        ensures told { (b : List ℕ) → W.contents self.old.writer ≡ Some b → Appends b bytes.now result (W.contents self.new.writer) }
+    {
         match self.writer.write(bytes) {
             Ok(taken) if taken > 0 || bytes.is_empty() => Ok(taken),
             _ => {
