@@ -5,3 +5,4 @@ pub mod RoutingLemmas
 pub mod FindingLemmas
 pub mod TestLemmas
 pub mod ChainLemmas
+pub mod OriginLemmas

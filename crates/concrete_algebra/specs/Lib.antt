@@ -7,3 +7,4 @@ pub mod Laws
 pub mod Findings
 pub mod Answers
 pub mod Chains
+pub mod Origins

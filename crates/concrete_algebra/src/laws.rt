@@ -3,6 +3,7 @@
 
 ghost use Rattle.concrete_algebra.specs.Chains.{CandidatePathsAreShort, ChainsAreShort, LabelPathsAreShort, LabelsHaveChains, PathsAreChains, PathsAreHeld};
 ghost use Rattle.concrete_algebra.specs.Laws.{NetworksRoute, DeletesAreNamed};
+ghost use Rattle.concrete_algebra.specs.Origins.{NoOriginIsStable, NoOriginNoLabels, NothingOriginated};
 
 /// The problem of every network is a stable routing problem: over an arc a path grows by the sender, once
 /// and at most 10 times more, and by the receiver, at most 10 times, who was not on it.
@@ -25,4 +26,12 @@ pub fn law_of_chains()
     ensures held { PathsAreHeld }
     ensures labels { LabelPathsAreShort }
     ensures candidates { CandidatePathsAreShort }
+{}
+
+/// Where no router originates a route, no stable labelling has a label, and the labelling without labels is
+/// stable. A router without `network` lines that redistributes nothing originates nothing.
+pub fn law_of_origins()
+    ensures labels { NoOriginNoLabels }
+    ensures stable { NoOriginIsStable }
+    ensures nothing { NothingOriginated }
 {}
