@@ -6,3 +6,4 @@ pub mod FindingLemmas
 pub mod TestLemmas
 pub mod ChainLemmas
 pub mod OriginLemmas
+pub mod ReadingLemmas

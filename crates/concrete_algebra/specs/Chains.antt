@@ -28,7 +28,7 @@ LabelsHaveChains =
     (u : ℕ) (route : Route) → u < problem.routers → label_at labels u ≡ Some route →
     (chain : List ℕ) × IsChain problem labels chain u route
 
--- a chain has fewer routers than there are, its own first router not counted
+-- the senders of a chain are fewer than the routers: they are distinct, and u is none of them
 abbrev pub ChainsAreShort : Type 0
 ChainsAreShort =
     (problem : Problem) (labels : List (Option Route)) → IsRouting problem →
@@ -54,7 +54,7 @@ LabelPathsAreShort =
     (problem : Problem) (labels : List (Option Route)) → IsRouting problem → IsStable problem labels →
     (u : ℕ) (route : Route) → u < problem.routers → label_at labels u ≡ Some route → length route.path ≤ 21 * problem.routers
 
--- so has that of each candidate that comes over an arc, held or not
+-- the path of each candidate that comes over an arc, held or not, has no more
 abbrev pub CandidatePathsAreShort : Type 0
 CandidatePathsAreShort =
     (problem : Problem) (labels : List (Option Route)) → IsRouting problem → IsStable problem labels →

@@ -33,7 +33,8 @@ pub record LocalPath (u : ℕ) (route : Route) : Type 0 where
   pub path : route.path ≡ replicate mine u
   pub source : route.source ≡ Local
 
--- a stable routing problem
+-- what holds of the problem of every network: it has at most 64 routers and links, the ends of arcs that are up are
+-- among them, and routes change as above
 pub record IsRouting (problem : Problem) : Type 0 where
   pub few : problem.routers ≤ 64
   pub few_links : problem.links ≤ 64
@@ -43,7 +44,7 @@ pub record IsRouting (problem : Problem) : Type 0 where
   pub carried : (arc : Arc) (sent route : Route) → problem.up arc ≡ true → problem.carry arc sent ≡ Some route → CarriedPath problem arc sent route
   pub local : (u : ℕ) (route : Route) → problem.local u ≡ Some route → LocalPath u route
 
--- each network has one
+-- the problem of each network has it
 abbrev pub NetworksRoute : Type 0
 NetworksRoute =
     (net : NetValue) (prefix : PrefixValue) (failed : List ℕ) (distances : List (Option ℕ)) → IsNet net →

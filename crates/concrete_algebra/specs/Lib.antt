@@ -8,3 +8,4 @@ pub mod Findings
 pub mod Answers
 pub mod Chains
 pub mod Origins
+pub mod Readings

@@ -23,7 +23,10 @@ mod stability;
 mod tests;
 
 pub use carrying::{export, import};
-pub use laws::{law_of_chains, law_of_deletes, law_of_origins, law_of_routing};
+pub use laws::{
+    law_of_chains, law_of_deletes, law_of_entries, law_of_order, law_of_origins, law_of_routes,
+    law_of_routing,
+};
 pub use local_routes::local_route;
 pub use maps::run_map;
 pub use orders::better;

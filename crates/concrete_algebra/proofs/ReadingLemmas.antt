@@ -1,0 +1,301 @@
+-- The definitions say what their readings say.
+use Rattle.std.proofs.Common.{ℕ, ◌≡◌, ◌<◌, ◌⊎◌, ◌↔◌, ◌&&◌, ◌||◌, nat_lt, ◌==◌, inl, inr, Bool, true, false, not, List, [], ◌∷◌, length, Option, Some, None, slice_get, arith, ap, sym, subst, ◌∙◌, refl, if◌then◌else◌}
+use Rattle.std.specs.Int.{bit_not, w64}
+use Rattle.std.specs.Option.{option_and_then, option_map_or}
+use Rattle.std.specs.declared.cmp.Ordering.{Ordering}
+use Rattle.std.specs.declared.cmp.Ordering.TheVariants.{Less, Equal, Greater}
+use Rattle.std.specs.Ordering.{is_lt, nat_cmp, ordering_then}
+use Rattle.std.proofs.lemmas.Bool.Decides.{nat_tests}
+use Rattle.std.proofs.lemmas.List.Elements.{All-head, All-tail}
+use Rattle.net_types.specs.declared.arcs.Arc.{Arc}
+use Rattle.net_types.specs.declared.config.Origin.{Origin}
+use Rattle.net_types.specs.declared.config.Origin.TheVariants.{Igp, Egp, Incomplete}
+use Rattle.net_types.specs.declared.config.PrefixEntry.{PrefixEntry}
+use Rattle.net_types.specs.declared.network.Link.{Link}
+use Rattle.net_types.specs.declared.network.NetCommunityEntry.{NetCommunityEntry}
+use Rattle.net_types.specs.declared.network.NetMapEntry.{NetMapEntry}
+use Rattle.net_types.specs.declared.network.NetSetCommunity.TheVariants.{Keep, Replace, Add, Clear}
+use Rattle.net_types.specs.declared.network.Owned.{Owned}
+use Rattle.net_types.specs.declared.network.Policy.{Policy}
+use Rattle.net_types.specs.declared.network.Policy.TheVariants.{Open}
+use Rattle.net_types.specs.declared.network.Router.{Router}
+use Rattle.net_types.specs.declared.routes.Route.{Route}
+use Rattle.net_types.specs.declared.routes.Source.{Source}
+use Rattle.net_types.specs.declared.routes.Source.TheVariants.{Local, Learned}
+use Rattle.net_types.specs.Arcs.{from_end, sender_of, to_end}
+use Rattle.net_types.specs.Better.{med_step, origin_rank, same_router, source_rank}
+use Rattle.net_types.specs.NetValue.{NetValue}
+use Rattle.net_types.specs.Owners.{is_owned}
+use Rattle.net_types.specs.PrefixValue.{PrefixValue}
+use Rattle.net_types.specs.Prefixes.{same_prefix}
+use Rattle.net_types.specs.Sets.{has, is_part}
+use Rattle.net_types.proofs.SetLemmas.{has_common, has_union}
+use Rattle.concrete_algebra.specs.Carrying.{as_received, carry_gives, export_gives, import_gives, is_kept_home, is_on, learned_over, sent_by, sent_med}
+use Rattle.concrete_algebra.specs.LocalRoutes.{entry_of, local_of, route_by_entry}
+use Rattle.concrete_algebra.specs.Maps.{community_entries, community_list_permits, deleted_by, entries_give, entry_matches, map_gives, prefix_entry_matches, prefix_list_permits}
+use Rattle.concrete_algebra.specs.Readings.{BetterIsAhead, DeletesByMember, FirstCommunityPermits, FirstEntryGives, FirstPrefixPermits, IsLowerOrigin, IsOpenArc, NoEntryGives, OpenArcsCarry, OwnersByOwning, SetsByMember, arriving}
+use Rattle.concrete_algebra.proofs.DeleteLemmas.{deletes_are_named, deletes_small, has_none, has_others}
+
+-- ---- the order of routes, a step at a time
+
+abbrev Decided : Ordering → Type 0 → Type 0
+Decided step Ahead = (is_lt step ≡ true) ↔ Ahead
+
+number_step : (x y : ℕ) (rest : Ordering) (Ahead : Type 0) → Decided rest Ahead → Decided (ordering_then (nat_cmp x y) rest) ((x < y) ⊎ ((x ≡ y) × Ahead))
+number_step x y rest Ahead later = go (nat_lt x y) (x == y) refl refl where
+  go : (less same : Bool) → nat_lt x y ≡ less → (x == y) ≡ same →
+      Decided (ordering_then (if less then Less else (if same then Equal else Greater)) rest) ((x < y) ⊎ ((x ≡ y) × Ahead))
+  go true same l s = ((λ e. inl (grind (arith, nat_tests))), (λ h. refl))
+  go false true l s = (
+    (λ e. inr ((grind (arith, nat_tests)), later.0 e)),
+    (λ h. elim h [
+      | inl less ↦ absurd (grind (arith, nat_tests))
+      | inr both ↦ later.1 both.1
+    ]),
+  )
+  go false false l s = (
+    (λ e. absurd (cc)),
+    (λ h. elim h [
+      | inl less ↦ absurd (grind (arith, nat_tests))
+      | inr both ↦ absurd (let e = both.0 in grind (arith, nat_tests))
+    ]),
+  )
+
+-- local before learned
+source_step : (a b : Source) (rest : Ordering) (Ahead : Type 0) → Decided rest Ahead →
+    Decided (ordering_then (nat_cmp (source_rank a) (source_rank b)) rest)
+    (((a ≡ Local) × ((arc : Arc) × (b ≡ Learned arc))) ⊎ ((((a ≡ Local) × (b ≡ Local)) ⊎ (((arc : Arc) × (a ≡ Learned arc)) × ((arc : Arc) × (b ≡ Learned arc)))) × Ahead))
+source_step Local Local rest Ahead later = (
+  (λ e. inr (inl (refl, refl), later.0 e)),
+  (λ h. elim h [
+    | inl (l, (arc, e)) ↦ absurd (cc)
+    | inr both ↦ later.1 both.1
+  ]),
+)
+source_step Local (Learned arc) rest Ahead later = ((λ e. inl (refl, (arc, refl))), (λ h. refl))
+source_step (Learned arc) Local rest Ahead later = (
+  (λ e. absurd (cc)),
+  (λ h. elim h [
+    | inl (l, other) ↦ absurd (cc)
+    | inr (kind, ahead) ↦ elim kind [
+      | inl (l, m) ↦ absurd (cc)
+      | inr (l, (other, m)) ↦ absurd (cc)
+    ]
+  ]),
+)
+source_step (Learned arc) (Learned other) rest Ahead later = (
+  (λ e. inr (inr ((arc, refl), (other, refl)), later.0 e)),
+  (λ h. elim h [
+    | inl (l, m) ↦ absurd (cc)
+    | inr both ↦ later.1 both.1
+  ]),
+)
+
+-- igp, egp, incomplete
+origin_step : (a b : Origin) (rest : Ordering) (Ahead : Type 0) → Decided rest Ahead →
+    Decided (ordering_then (nat_cmp (origin_rank a) (origin_rank b)) rest) (IsLowerOrigin a b ⊎ ((a ≡ b) × Ahead))
+origin_step Igp Igp rest Ahead later = (
+  (λ e. inr (refl, later.0 e)),
+  (λ h. elim h [
+    | inl never ↦ absurd never
+    | inr both ↦ later.1 both.1
+  ]),
+)
+origin_step Igp Egp rest Ahead later = ((λ e. inl tt), (λ h. refl))
+origin_step Igp Incomplete rest Ahead later = ((λ e. inl tt), (λ h. refl))
+origin_step Egp Igp rest Ahead later = (
+  (λ e. absurd (cc)),
+  (λ h. elim h [
+    | inl never ↦ absurd never
+    | inr both ↦ absurd (let e = both.0 in cc)
+  ]),
+)
+origin_step Egp Egp rest Ahead later = (
+  (λ e. inr (refl, later.0 e)),
+  (λ h. elim h [
+    | inl never ↦ absurd never
+    | inr both ↦ later.1 both.1
+  ]),
+)
+origin_step Egp Incomplete rest Ahead later = ((λ e. inl tt), (λ h. refl))
+origin_step Incomplete Igp rest Ahead later = (
+  (λ e. absurd (cc)),
+  (λ h. elim h [
+    | inl never ↦ absurd never
+    | inr both ↦ absurd (let e = both.0 in cc)
+  ]),
+)
+origin_step Incomplete Egp rest Ahead later = (
+  (λ e. absurd (cc)),
+  (λ h. elim h [
+    | inl never ↦ absurd never
+    | inr both ↦ absurd (let e = both.0 in cc)
+  ]),
+)
+origin_step Incomplete Incomplete rest Ahead later = (
+  (λ e. inr (refl, later.0 e)),
+  (λ h. elim h [
+    | inl never ↦ absurd never
+    | inr both ↦ later.1 both.1
+  ]),
+)
+
+-- MED, of one sender
+sender_step : (p q : Option ℕ) (m n : ℕ) →
+    Decided (ordering_then (if same_router p q then nat_cmp m n else Equal) Equal) ((sender : ℕ) × (p ≡ Some sender) × (q ≡ Some sender) × (m < n))
+sender_step None None m n = ((λ e. absurd (cc)), (λ (s, e, f, less). absurd (cc)))
+sender_step None (Some v) m n = ((λ e. absurd (cc)), (λ (s, e, f, less). absurd (cc)))
+sender_step (Some u) None m n = ((λ e. absurd (cc)), (λ (s, e, f, less). absurd (cc)))
+sender_step (Some u) (Some v) m n = go (u == v) refl (number_step m n Equal ⊥ ((λ e. absurd (cc)), (λ never. absurd never))) where
+  go : (same : Bool) → (u == v) ≡ same → Decided (ordering_then (nat_cmp m n) Equal) ((m < n) ⊎ ((m ≡ n) × ⊥)) →
+      Decided (ordering_then (if same then nat_cmp m n else Equal) Equal) ((sender : ℕ) × (Some u ≡ Some sender) × (Some v ≡ Some sender) × (m < n))
+  go true s step = (
+    (λ e. elim (step.0 e) [
+      | inl less ↦ let same : v ≡ u = grind (arith, nat_tests) in (u, refl, ap (λ (x : ℕ). Some x) same, less)
+      | inr both ↦ absurd both.1
+    ]),
+    (λ (x, e, f, less). step.1 (inl less)),
+  )
+  go false s step = ((λ e. absurd (cc)), (λ (x, e, f, less). let same : u ≡ v = cc in absurd (grind (arith, nat_tests))))
+
+med_decided : (net : NetValue) (a b : Source) (m n : ℕ) →
+    Decided (ordering_then (med_step net a b m n) Equal)
+    ((over : Arc) × (other : Arc) × (sender : ℕ) × (a ≡ Learned over) × (b ≡ Learned other) ×
+    (sender_of net over ≡ Some sender) × (sender_of net other ≡ Some sender) × (m < n))
+med_decided net Local Local m n = ((λ e. absurd (cc)), (λ (over, other, s, e, f, p, q, less). absurd (cc)))
+med_decided net Local (Learned y) m n = ((λ e. absurd (cc)), (λ (over, other, s, e, f, p, q, less). absurd (cc)))
+med_decided net (Learned x) Local m n = ((λ e. absurd (cc)), (λ (over, other, s, e, f, p, q, less). absurd (cc)))
+med_decided net (Learned x) (Learned y) m n =
+    let step = sender_step (sender_of net x) (sender_of net y) m n in
+    ((λ e. let h = step.0 e in (x, y, h.0, refl, refl, h.1, h.2, h.3)), (λ (over, other, s, e, f, p, q, less). step.1 (s, same_sender x over s e p, same_sender y other s f q, less))) where
+      same_sender : (a b : Arc) (s : ℕ) → Learned a ≡ Learned b → sender_of net b ≡ Some s → sender_of net a ≡ Some s
+      same_sender a b s e p = let same : a ≡ b = cc in subst (λ (c : Arc). sender_of net c ≡ Some s) (sym same) p
+
+pub better_is_ahead : BetterIsAhead
+better_is_ahead net a b =
+    number_step b.weight a.weight _ _ (number_step b.preference a.preference _ _ (source_step a.source b.source _ _ (number_step (length a.path) (length b.path) _ _ (origin_step a.origin b.origin _ _ (med_decided net a.source b.source a.med b.med)))))
+
+-- ---- the first entry that matches decides
+
+pub first_entry_gives : FirstEntryGives
+unfolding entries_give
+first_entry_gives router u prefix [] later entry route none is = rw is refl
+first_entry_gives router u prefix (e ∷ before) later entry route none is =
+    let head = All-head (λ (e : NetMapEntry). entry_matches router prefix e route.communities ≡ false) e before none in
+    let tail = All-tail (λ (e : NetMapEntry). entry_matches router prefix e route.communities ≡ false) e before none in
+    rw head (first_entry_gives router u prefix before later entry route tail is)
+
+pub no_entry_gives : NoEntryGives
+unfolding entries_give
+no_entry_gives router u prefix [] route none = refl
+no_entry_gives router u prefix (e ∷ before) route none =
+    let head = All-head (λ (e : NetMapEntry). entry_matches router prefix e route.communities ≡ false) e before none in
+    let tail = All-tail (λ (e : NetMapEntry). entry_matches router prefix e route.communities ≡ false) e before none in
+    rw head (no_entry_gives router u prefix before route tail)
+
+pub first_prefix_permits : FirstPrefixPermits
+unfolding prefix_list_permits
+first_prefix_permits prefix [] later entry none is = rw is refl
+first_prefix_permits prefix (e ∷ before) later entry none is =
+    let head = All-head (λ (e : PrefixEntry). prefix_entry_matches prefix e ≡ false) e before none in
+    let tail = All-tail (λ (e : PrefixEntry). prefix_entry_matches prefix e ≡ false) e before none in
+    rw head (first_prefix_permits prefix before later entry tail is)
+
+pub first_community_permits : FirstCommunityPermits
+unfolding community_list_permits
+first_community_permits held [] later entry none is = rw is refl
+first_community_permits held (e ∷ before) later entry none is =
+    let head = All-head (λ (e : NetCommunityEntry). is_part e.values held ≡ false) e before none in
+    let tail = All-tail (λ (e : NetCommunityEntry). is_part e.values held ≡ false) e before none in
+    rw head (first_community_permits held before later entry tail is)
+
+-- ---- sets of communities, asked of one community
+
+pub sets_by_member : SetsByMember
+sets_by_member Keep held community = refl
+sets_by_member (Replace values) held community = refl
+sets_by_member (Add values) held community = has_union held values community
+sets_by_member Clear held community = has_none community
+
+pub deletes_by_member : DeletesByMember
+deletes_by_member count router position held community valid low =
+    let entries = community_entries router position in
+    has_common held (bit_not w64 (deleted_by entries)) community ∙
+    ap (λ (b : Bool). has held community && b) (has_others (deleted_by entries) community (deletes_small count entries valid) low ∙ ap not (deletes_are_named count entries community valid low))
+
+-- ---- an arc whose sides are open
+
+open_gives : (net : NetValue) (u : ℕ) (policy : Policy) (prefix : PrefixValue) (route : Route) → policy ≡ Open → map_gives net u policy prefix route ≡ Some route
+unfolding map_gives
+open_gives net u policy prefix route e = rw e refl
+
+open_sends : (net : NetValue) (prefix : PrefixValue) (arc : Arc) (link : Link) (route : Route) → IsOpenArc net arc link →
+    export_gives net prefix arc route ≡ (if is_kept_home net route.communities then None else Some (sent_by (from_end arc.down link).router (record route { med = sent_med route.source route.med })))
+unfolding export_gives
+open_sends net prefix arc link route h =
+    let e = open_gives net (from_end arc.down link).router (from_end arc.down link).export prefix (record route { med = sent_med route.source route.med }) h.out in
+    rw h.is (rw e refl)
+
+open_takes : (net : NetValue) (prefix : PrefixValue) (arc : Arc) (link : Link) (route : Route) → IsOpenArc net arc link →
+    import_gives net prefix arc route ≡ (if is_on (to_end arc.down link).router route.path then None else Some (learned_over arc (as_received route)))
+unfolding import_gives
+open_takes net prefix arc link route h =
+    let e = open_gives net (to_end arc.down link).router (to_end arc.down link).import prefix (as_received route) h.inward in
+    rw h.is (rw e refl)
+
+sent_then_taken : (net : NetValue) (prefix : PrefixValue) (arc : Arc) (link : Link) (route : Route) → IsOpenArc net arc link → is_kept_home net route.communities ≡ false →
+    carry_gives net prefix arc route ≡
+    (if is_on (to_end arc.down link).router ((from_end arc.down link).router ∷ route.path) then None else Some (arriving arc (from_end arc.down link).router route))
+sent_then_taken net prefix arc link route h away =
+    let e = open_sends net prefix arc link route h in
+    let f : export_gives net prefix arc route ≡ Some (sent_by (from_end arc.down link).router (record route { med = sent_med route.source route.med })) = e ∙ rw away refl in
+    rw f (open_takes net prefix arc link (sent_by (from_end arc.down link).router (record route { med = sent_med route.source route.med })) h)
+
+pub open_arcs_carry : OpenArcsCarry
+open_arcs_carry net prefix arc link route h = record {
+  home = λ kept. let e = open_sends net prefix arc link route h in let f : export_gives net prefix arc route ≡ None = e ∙ rw kept refl in rw f refl;
+  loop = λ on. go (is_kept_home net route.communities) refl on;
+  arrives = λ away off. sent_then_taken net prefix arc link route h away ∙ rw off refl;
+} where
+  go : (kept : Bool) → is_kept_home net route.communities ≡ kept → is_on (to_end arc.down link).router ((from_end arc.down link).router ∷ route.path) ≡ true → carry_gives net prefix arc route ≡ None
+  go true k on = let e = open_sends net prefix arc link route h in let f : export_gives net prefix arc route ≡ None = e ∙ rw k refl in rw f refl
+  go false k on = sent_then_taken net prefix arc link route h k ∙ rw on refl
+
+-- ---- owners
+
+found_owner : (prefix : PrefixValue) (owned : List Owned) → is_owned prefix owned ≡ true → (entry : Owned) × (entry_of prefix owned ≡ Some entry)
+found_owner prefix [] e = absurd (cc)
+found_owner prefix (first ∷ later) e = go (same_prefix first.prefix prefix) refl e (found_owner prefix later) where
+  go : (same : Bool) → same_prefix first.prefix prefix ≡ same → (same || is_owned prefix later) ≡ true → (is_owned prefix later ≡ true → (entry : Owned) × (entry_of prefix later ≡ Some entry)) →
+      (entry : Owned) × ((if same then Some first else entry_of prefix later) ≡ Some entry)
+  go true s e more = (first, refl)
+  go false s e more = more e
+
+no_owner : (prefix : PrefixValue) (owned : List Owned) → is_owned prefix owned ≡ false → entry_of prefix owned ≡ None
+no_owner prefix [] e = refl
+no_owner prefix (first ∷ later) e = go (same_prefix first.prefix prefix) e (no_owner prefix later) where
+  go : (same : Bool) → (same || is_owned prefix later) ≡ false → (is_owned prefix later ≡ false → entry_of prefix later ≡ None) → (if same then Some first else entry_of prefix later) ≡ None
+  go true e more = absurd (cc)
+  go false e more = more e
+
+owner_at : (net : NetValue) (prefix : PrefixValue) (u : ℕ) (distance : Option ℕ) (router : Router) → is_owned prefix router.owned ≡ true →
+    route_by_entry net prefix u router distance (entry_of prefix router.owned) ≡ route_by_entry net prefix u router None (entry_of prefix router.owned)
+owner_at net prefix u distance router e = let f = found_owner prefix router.owned e in rw f.1 refl
+
+other_at : (net : NetValue) (prefix : PrefixValue) (u : ℕ) (router : Router) → is_owned prefix router.owned ≡ false →
+    route_by_entry net prefix u router None (entry_of prefix router.owned) ≡ None
+other_at net prefix u router e = rw (no_owner prefix router.owned e) refl
+
+pub owners_by_owning : OwnersByOwning
+unfolding local_of
+owners_by_owning net prefix u distance = ((λ e. owner (slice_get net.routers u) e), (λ e. other (slice_get net.routers u) e)) where
+  owner : (o : Option Router) → option_map_or (λ (router : Router). is_owned prefix router.owned) o false ≡ true →
+      option_and_then (λ (router : Router). route_by_entry net prefix u router distance (entry_of prefix router.owned)) o ≡
+      option_and_then (λ (router : Router). route_by_entry net prefix u router None (entry_of prefix router.owned)) o
+  owner None e = refl
+  owner (Some router) e = owner_at net prefix u distance router e
+
+  other : (o : Option Router) → option_map_or (λ (router : Router). is_owned prefix router.owned) o false ≡ false →
+      option_and_then (λ (router : Router). route_by_entry net prefix u router None (entry_of prefix router.owned)) o ≡ None
+  other None e = refl
+  other (Some router) e = other_at net prefix u router e
