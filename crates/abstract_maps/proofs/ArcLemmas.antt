@@ -215,7 +215,29 @@ free_either net prefix arc row valid = elim (kind net prefix arc valid) [
   | inr n ↦ inl (n.free_is row)
 ]
 
+pub gives_either : (net : NetValue) (prefix : PrefixValue) (arc : Arc) (row : Row) → IsNet net → (gives net prefix arc row ≡ bottom) ⊎ IsInhabited (gives net prefix arc row)
+gives_either net prefix arc row valid = go (inhabited (transfer net prefix arc row)) refl where
+  go : (b : Bool) → inhabited (transfer net prefix arc row) ≡ b → (cond b (carried_row (transfer net prefix arc row)) bottom ≡ bottom) ⊎ IsInhabited (cond b (carried_row (transfer net prefix arc row)) bottom)
+  go false e = inl refl
+  go true e = inr (kept ((inhabited_is (transfer net prefix arc row)).0 e)) where
+    kept : IsInhabited (transfer net prefix arc row) → IsInhabited (carried_row (transfer net prefix arc row))
+    kept i = record {
+      weight = i.weight;
+      preference = i.preference;
+      length = i.length;
+      origin = i.origin;
+      med = omega arith;
+      communities = i.communities;
+      routers = i.routers;
+    }
+
 -- ---- short paths
+
+pub transfer_is_cut : (net : NetValue) (prefix : PrefixValue) (arc : Arc) (row : Row) → IsNet net → (transfer net prefix arc row).length.high ≤ longest net
+transfer_is_cut net prefix arc row valid = elim (kind net prefix arc valid) [
+  | inl s ↦ (let e = ap (λ (x : Row). x.length.high) (s.transfer_is row) in let f = between_short net prefix s.from s.to row in omega arith)
+  | inr n ↦ (let e : (transfer net prefix arc row).length.high ≡ 0 = ap (λ (x : Row). x.length.high) (n.transfer_is row) in omega arith)
+]
 
 transfer_high : (net : NetValue) (prefix : PrefixValue) (arc : Arc) (row : Row) → IsNet net → (transfer net prefix arc row).length.high ≤ 1344
 transfer_high net prefix arc row valid = elim (kind net prefix arc valid) [

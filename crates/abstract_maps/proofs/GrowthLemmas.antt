@@ -33,7 +33,7 @@ uninhabited_or row = elim (bool_cases (inhabited row)) [
 
 -- ---- what the sender announces
 
-sent_out : (v : ℕ) (row : Row) → inhabited row ≡ false → row_sent_by v row ≡ bottom
+pub sent_out : (v : ℕ) (row : Row) → inhabited row ≡ false → row_sent_by v row ≡ bottom
 unfolding row_sent_by
 sent_out v row e = rw e refl
 
@@ -100,7 +100,7 @@ received_grows u a b l = go (has a.must u) (has b.must u) refl refl where
     must = l.must;
   })
 
-received_none : (u : ℕ) → u < 64 → received u bottom ≡ bottom
+pub received_none : (u : ℕ) → u < 64 → received u bottom ≡ bottom
 unfolding received
 received_none u low = let e = has_full u low in rw e refl
 
@@ -118,7 +118,7 @@ free_grows u a b l = record {
   must = minus_part b.must a.must (2 ^ u) l.must;
 }
 
-free_none : (u : ℕ) → inhabited (received_free u bottom) ≡ false
+pub free_none : (u : ℕ) → inhabited (received_free u bottom) ≡ false
 unfolding received_free
 free_none u = refl
 
@@ -153,7 +153,7 @@ received_under_free u row = go (has row.must u) where
 
 -- ---- what the receiver takes in
 
-cut_out : (most : ℕ) (row : Row) → inhabited row ≡ false → cut_row most row ≡ bottom
+pub cut_out : (most : ℕ) (row : Row) → inhabited row ≡ false → cut_row most row ≡ bottom
 unfolding cut_row
 cut_out most row e = rw e refl
 
@@ -172,7 +172,7 @@ cut_grows most a b i l =
       length = (let q = l.length in (omega arith, omega arith));
     })
 
-cut_inhabited : (most : ℕ) (row : Row) → IsInhabited row → IsInhabited (cut_row most row)
+pub cut_inhabited : (most : ℕ) (row : Row) → IsInhabited row → IsInhabited (cut_row most row)
 unfolding cut_row
 cut_inhabited most row i = let e = (inhabited_is row).1 i in rw e (record {
   weight = i.weight;
@@ -209,7 +209,7 @@ cut_short most row = go (inhabited row) where
 pub longest_small : (net : NetValue) → IsNet net → longest net ≤ 1344
 longest_small net valid = let f = valid.few_routers in omega arith
 
-imported_out : (net : NetValue) (prefix : PrefixValue) (to : End) (row : Row) → inhabited row ≡ false → imported net prefix to row ≡ bottom
+pub imported_out : (net : NetValue) (prefix : PrefixValue) (to : End) (row : Row) → inhabited row ≡ false → imported net prefix to row ≡ bottom
 unfolding imported
 imported_out net prefix to row none = ap (cut_row (longest net)) (map_out net to.router to.import prefix row none) ∙ cut_out (longest net) bottom refl
 
@@ -244,7 +244,7 @@ imported_short net prefix to row = cut_short (longest net) (abstract_map net to.
 
 -- ---- from end to end
 
-received_words : (u : ℕ) (row : Row) → HasWords row → HasWords (received u row)
+pub received_words : (u : ℕ) (row : Row) → HasWords row → HasWords (received u row)
 unfolding received
 received_words u row w = go (has row.must u) where
   go : (p : Bool) → HasWords (cond p bottom (record row { weight = single 0; preference = single 100; may = less row.may u }))

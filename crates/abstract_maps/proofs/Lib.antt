@@ -7,5 +7,8 @@ pub mod TransferLemmas
 pub mod GrowthLemmas
 pub mod ArcLemmas
 pub mod LocalLemmas
+pub mod ExactLemmas
+pub mod OneRouteArcs
+pub mod FreeLemmas
 pub mod PreferringLemmas
 pub mod OneRouterLemmas

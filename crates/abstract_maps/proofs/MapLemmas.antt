@@ -188,7 +188,7 @@ pub map_out : (net : NetValue) (u : ℕ) (policy : Policy) (prefix : PrefixValue
 unfolding abstract_map
 map_out net u policy prefix row e = rw e refl
 
-sure_in : (net : NetValue) (u : ℕ) (policy : Policy) (prefix : PrefixValue) (row : Row) (at : IsAt net u) → sure net u policy prefix row ≡ sure_policy at.router policy prefix row
+pub sure_in : (net : NetValue) (u : ℕ) (policy : Policy) (prefix : PrefixValue) (row : Row) (at : IsAt net u) → sure net u policy prefix row ≡ sure_policy at.router policy prefix row
 unfolding sure
 sure_in net u policy prefix row at = rw at.is refl
 

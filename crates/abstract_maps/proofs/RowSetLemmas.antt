@@ -123,7 +123,7 @@ router_small k u set low small = go (k == 0) where
   go true = small
   go false = or_lt 64 set (2 ^ u) small (pow_below u 64 low)
 
-routers-front : (k u : ℕ) (path : List ℕ) → with_router k u (routers_of path) ≡ routers_of (replicate k u ++ path)
+pub routers-front : (k u : ℕ) (path : List ℕ) → with_router k u (routers_of path) ≡ routers_of (replicate k u ++ path)
 routers-front k u path = same_sets (with_router k u (routers_of path)) (routers_of (replicate k u ++ path)) (λ x. elim (added k u (routers_of path) x) [
   | added_none none e ↦ e ∙ (rw none refl)
   | added_one some e ↦ e ∙ ap (λ (b : Bool). b || (x == u)) (has-routers_of path x) ∙ front_on x some ∙ sym (has-routers_of (replicate k u ++ path) x)

@@ -36,7 +36,7 @@ pub record IsNumbered (net : NetValue) (value : ℕ) : Type 0 where
   pub is : community_number net value ≡ Some number
   pub low : number < 64
 
-numbered : (net : NetValue) (value : ℕ) → IsNet net → Contains net.communities value → IsNumbered net value
+pub numbered : (net : NetValue) (value : ℕ) → IsNet net → Contains net.communities value → IsNumbered net value
 numbered net value valid there = elim (below_or_not (position_or_len (λ c. c == value) net.communities) (length net.communities)) [
   | inl found ↦ record {
     number = position_or_len (λ c. c == value) net.communities;
@@ -50,7 +50,7 @@ numbered net value valid there = elim (below_or_not (position_or_len (λ c. c ==
       grind (arith, nat_tests))
 ]
 
-holds_at : (net : NetValue) (value set : ℕ) (n : IsNumbered net value) → holds_value net value set ≡ has set n.number
+pub holds_at : (net : NetValue) (value set : ℕ) (n : IsNumbered net value) → holds_value net value set ≡ has set n.number
 holds_at net value set n = ap (λ (o : Option ℕ). option_map_or (λ number. has set number) o false) n.is
 
 -- what is not kept home may leave with each row that it fits
@@ -118,7 +118,7 @@ sent_fits v t row f = let e = (inhabited_is row).1 (fits_inhabited t row f) in r
 })
 
 -- the two words for the MED that is sent are one
-sent_same : (s : Source) (m : ℕ) → exported_med s m ≡ sent_med s m
+pub sent_same : (s : Source) (m : ℕ) → exported_med s m ≡ sent_med s m
 sent_same Local m = refl
 sent_same (Learned arc) m = refl
 

@@ -15,7 +15,7 @@ use Rattle.net_types.specs.NetValue.{NetValue}
 use Rattle.net_types.specs.PrefixValue.{PrefixValue}
 use Rattle.abstract_maps.specs.AbstractMap.{IsShort, abstract_map, sure}
 use Rattle.abstract_maps.specs.LocalRow.{local_row}
-use Rattle.abstract_maps.specs.Transfer.{free, gives, longest, opens, passes, transfer}
+use Rattle.abstract_maps.specs.Transfer.{free, gives, less, longest, opens, passes, transfer}
 
 -- what a policy gives of a route that fits a row fits what it makes of the row
 abbrev pub MapIsSound : Type 0
@@ -89,7 +89,8 @@ PassesIsOpen =
     (net : NetValue) (prefix : PrefixValue) (arc : Arc) (row : Row) → IsNet net →
     passes net prefix arc row ≡ true → opens net prefix arc row ≡ true
 
--- an arc makes no route of a row, or an inhabited row; so it does were the receiver on no path
+-- an arc makes no route of a row, or an inhabited row; and so for what it would make were the receiver on no path,
+-- and for what it adds to its receiver's row
 abbrev pub TransferIsNoneOrInhabited : Type 0
 TransferIsNoneOrInhabited =
     (net : NetValue) (prefix : PrefixValue) (arc : Arc) (row : Row) → IsNet net →
@@ -99,6 +100,21 @@ abbrev pub FreeIsNoneOrInhabited : Type 0
 FreeIsNoneOrInhabited =
     (net : NetValue) (prefix : PrefixValue) (arc : Arc) (row : Row) → IsNet net →
     (free net prefix arc row ≡ bottom) ⊎ IsInhabited (free net prefix arc row)
+
+abbrev pub GivesIsNoneOrInhabited : Type 0
+GivesIsNoneOrInhabited =
+    (net : NetValue) (prefix : PrefixValue) (arc : Arc) (row : Row) → IsNet net →
+    (gives net prefix arc row ≡ bottom) ⊎ IsInhabited (gives net prefix arc row)
+
+-- the row, were a router on none of its paths
+abbrev pub without : ℕ → Row → Row
+without u row = record row { may = less row.may u; must = less row.must u }
+
+-- what an arc would make of a row, were the receiver on no path, it does make of the row without the receiver
+abbrev pub FreeIsTransfer : Type 0
+FreeIsTransfer =
+    (net : NetValue) (prefix : PrefixValue) (arc : Arc) (u : ℕ) (row : Row) → IsNet net → receiver_of net arc ≡ Some u → IsInhabited row →
+    free net prefix arc row ≡ transfer net prefix arc (without u row)
 
 -- an arc that is not open for a row makes nothing of it
 abbrev pub ClosedIsBottom : Type 0
@@ -120,6 +136,11 @@ GivesIsRow =
 abbrev pub TransferIsShort : Type 0
 TransferIsShort =
     (net : NetValue) (prefix : PrefixValue) (arc : Arc) (row : Row) → IsNet net → IsShort (transfer net prefix arc row)
+
+-- no longer than the cut
+abbrev pub TransferIsCut : Type 0
+TransferIsCut =
+    (net : NetValue) (prefix : PrefixValue) (arc : Arc) (row : Row) → IsNet net → (transfer net prefix arc row).length.high ≤ longest net
 
 abbrev pub GivesIsShort : Type 0
 GivesIsShort =

@@ -5,3 +5,4 @@ pub mod Transfer
 pub mod LocalRow
 pub mod OnTheWay
 pub mod Laws
+pub mod OneRoute

@@ -1,7 +1,8 @@
 //! What is true of the abstract maps and transfers of every network: each law is the contract of a function that
 //! does nothing.
 
-ghost use Rattle.abstract_maps.specs.Laws.{ClosedIsBottom, FreeIsNoneOrInhabited, GivesGrows, GivesIsRow, GivesIsShort, GivesIsSound, LocalIsExact, LocalIsRow, LocalIsShort, MapGrows, MapIsNoneOrInhabited, MapIsSound, OpenGrows, PassesIsOpen, PassingIsSure, SureGives, TransferGrows, TransferIsNoneOrInhabited, TransferIsRow, TransferIsShort, TransferIsSound};
+ghost use Rattle.abstract_maps.specs.Laws.{ClosedIsBottom, FreeIsNoneOrInhabited, FreeIsTransfer, GivesGrows, GivesIsNoneOrInhabited, GivesIsRow, GivesIsShort, GivesIsSound, LocalIsExact, LocalIsRow, LocalIsShort, MapGrows, MapIsNoneOrInhabited, MapIsSound, OpenGrows, PassesIsOpen, PassingIsSure, SureGives, TransferGrows, TransferIsCut, TransferIsNoneOrInhabited, TransferIsRow, TransferIsShort, TransferIsSound};
+ghost use Rattle.abstract_maps.specs.OneRoute.{MapIsExact, OpenIsExact, PassesIsExact, SureIsExact, TransferIsExact};
 
 /// What a policy gives of a route of a row is a route of what it makes of the row, and a policy that is sure of a
 /// row gives something of each of its routes.
@@ -12,7 +13,8 @@ pub fn map_laws()
     ensures sure { SureGives }
 {}
 
-/// What an arc carries of a route of a row is a route of what it makes of the row.
+/// What an arc carries of a route of a row is a route of what it makes of the row, if its path has at most 21 entries
+/// for each router of the network.
 pub fn soundness_laws()
     ensures transfer { TransferIsSound }
     ensures gives { GivesIsSound }
@@ -30,19 +32,22 @@ pub fn growth_laws()
     ensures open { OpenGrows }
 {}
 
-/// An arc makes no route of a row, or an inhabited row; passing arcs are open, and an arc that is not open makes
-/// nothing of the row.
+/// An arc makes no route of a row, or an inhabited row; passing arcs are open, an arc that is not open makes
+/// nothing of the row, and open is asked of the row without the receiver.
 pub fn open_laws()
     ensures either { TransferIsNoneOrInhabited }
     ensures either_free { FreeIsNoneOrInhabited }
+    ensures either_gives { GivesIsNoneOrInhabited }
+    ensures free { FreeIsTransfer }
     ensures passes { PassesIsOpen }
     ensures closed { ClosedIsBottom }
 {}
 
-/// What an arc makes of a row of 64-bit words is such a row, with short paths.
+/// What an arc makes of a row of 64-bit words is such a row, with paths of at most 21 entries for each router.
 pub fn row_laws()
     ensures transfer { TransferIsRow }
     ensures gives { GivesIsRow }
+    ensures cut { TransferIsCut }
     ensures short_transfer { TransferIsShort }
     ensures short_gives { GivesIsShort }
 {}
@@ -52,4 +57,13 @@ pub fn local_laws()
     ensures exact { LocalIsExact }
     ensures row { LocalIsRow }
     ensures short { LocalIsShort }
+{}
+
+/// On the row of one route nothing is left open: each answer is what becomes of the route.
+pub fn one_route_laws()
+    ensures map { MapIsExact }
+    ensures sure { SureIsExact }
+    ensures transfer { TransferIsExact }
+    ensures passes { PassesIsExact }
+    ensures open { OpenIsExact }
 {}

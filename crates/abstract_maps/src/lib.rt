@@ -4,8 +4,9 @@
 //! routes. What they make of one route, `concrete_algebra` decides; how rows are ordered, `abstract_route`.
 //! Stands on: `net_types`, `abstract_route`, and the definitions of `concrete_algebra`. No call takes memory.
 //! Promises: each answer is the one of `specs/`, for every network; and the laws, stated in `specs/Laws.antt`, say
-//! that a carried route of a row fits what the arc makes of the row, that a row which passes is carried, and that
-//! what arcs make of rows grows with the rows. Not: that what is left open can happen.
+//! that a carried route of a row fits what the arc makes of the row, if its path has at most 21 entries for each
+//! router of the network, that a row which passes is carried, and that what arcs make of rows grows with the rows.
+//! On the row of one route nothing is lost (`specs/OneRoute.antt`). Not: that what is left open can happen.
 #![tactic(auto)]
 
 mod entries;
@@ -22,7 +23,8 @@ mod tests;
 mod transfers;
 
 pub use laws::{
-    growth_laws, local_laws, map_laws, open_laws, passing_law, row_laws, soundness_laws,
+    growth_laws, local_laws, map_laws, one_route_laws, open_laws, passing_law, row_laws,
+    soundness_laws,
 };
 pub use local_rows::local_row;
 pub use maps::run_map_abs;

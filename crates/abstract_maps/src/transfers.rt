@@ -163,7 +163,7 @@ pub fn passes(net: &Net, prefix: Prefix, arc: Arc, row: &Row) -> bool
 }
 
 /// Whether some route of the row might come over the arc, were the receiver on no path. Where it is not so, the
-/// transfer is the row of no route, whatever other arcs do.
+/// transfer is the row of no route, whoever is on the paths.
 pub fn is_open(net: &Net, prefix: Prefix, arc: Arc, row: &Row) -> bool
     requires { IsShort row.now }
     ensures { result ≡ opens net.now prefix arc row.now }

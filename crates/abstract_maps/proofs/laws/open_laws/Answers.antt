@@ -1,4 +1,5 @@
-use Rattle.abstract_maps.proofs.ArcLemmas.{closed_is_bottom, free_either, passes_is_open, transfer_either}
+use Rattle.abstract_maps.proofs.ArcLemmas.{closed_is_bottom, free_either, gives_either, passes_is_open, transfer_either}
+use Rattle.abstract_maps.proofs.FreeLemmas.{free_is_transfer}
 use Rattle.abstract_maps.proofs.laws.open_laws.Goals as goal
 
 pub returns-clause-passes : goal.returns-clause-passes
@@ -12,3 +13,9 @@ returns-clause-either c = transfer_either
 
 pub returns-clause-either_free : goal.returns-clause-either_free
 returns-clause-either_free c = free_either
+
+pub returns-clause-either_gives : goal.returns-clause-either_gives
+returns-clause-either_gives c = gives_either
+
+pub returns-clause-free : goal.returns-clause-free
+returns-clause-free c = free_is_transfer

@@ -1,0 +1,58 @@
+-- What is true of the row of one route: nothing of it is left open, so that the answers on it are those of
+-- `concrete_algebra` on the route.
+use Rattle.std.specs.Prelude.{ℕ, ◌≡◌, ◌<◌, ◌≤◌, ◌^◌, true, false, length, IfSome}
+use Rattle.std.specs.Option.{is_some}
+use Rattle.abstract_route.specs.declared.rows.Row.{Row}
+use Rattle.abstract_route.specs.Fits.{exact_row, exported_med, on_path}
+use Rattle.abstract_route.specs.Rows.{IsRow}
+use Rattle.concrete_algebra.specs.Carrying.{carry_gives}
+use Rattle.concrete_algebra.specs.Maps.{map_gives}
+use Rattle.net_types.specs.declared.arcs.Arc.{Arc}
+use Rattle.net_types.specs.declared.network.Policy.{Policy}
+use Rattle.net_types.specs.declared.routes.Route.{Route}
+use Rattle.net_types.specs.Arcs.{is_session, receiver_of}
+use Rattle.net_types.specs.NetFacts.{IsNet}
+use Rattle.net_types.specs.NetValue.{NetValue}
+use Rattle.net_types.specs.PrefixValue.{PrefixValue}
+use Rattle.abstract_maps.specs.AbstractMap.{abstract_map, sure}
+use Rattle.abstract_maps.specs.LocalRow.{exact_or_bottom}
+use Rattle.abstract_maps.specs.Transfer.{longest, opens, passes, transfer}
+
+-- of the row of one route a policy makes the row of what it gives of the route
+abbrev pub MapIsExact : Type 0
+MapIsExact =
+    (net : NetValue) (u : ℕ) (policy : Policy) (prefix : PrefixValue) (route : Route) → IsNet net → u < length net.routers →
+    route.communities < 2 ^ 64 → abstract_map net u policy prefix (exact_row route) ≡ exact_or_bottom (map_gives net u policy prefix route)
+
+-- and it is sure of that row exactly where it gives something
+abbrev pub SureIsExact : Type 0
+SureIsExact =
+    (net : NetValue) (u : ℕ) (policy : Policy) (prefix : PrefixValue) (route : Route) → IsNet net → u < length net.routers →
+    route.communities < 2 ^ 64 → sure net u policy prefix (exact_row route) ≡ is_some (map_gives net u policy prefix route)
+
+-- the least row that the route is in
+abbrev pub least_row : Route → Row
+least_row route = exact_row (record route { med = exported_med route.source route.med })
+
+-- of the row of one route an arc makes the row of what it carries of the route, if its path is no longer than the cut
+abbrev pub TransferIsExact : Type 0
+TransferIsExact =
+    (net : NetValue) (prefix : PrefixValue) (arc : Arc) (route : Route) → IsNet net → IsRow (least_row route) → is_session net arc ≡ true →
+    IfSome (carry_gives net prefix arc route) (λ carried. length carried.path ≤ longest net) →
+    transfer net prefix arc (least_row route) ≡ exact_or_bottom (carry_gives net prefix arc route)
+
+-- the router that the arc goes to is not on the route's path
+abbrev pub Misses : NetValue → Arc → Route → Type 0
+Misses net arc route = IfSome (receiver_of net arc) (λ u. on_path u route.path ≡ false)
+
+-- an arc passes the row of one route exactly where it carries the route, if the receiver is not on its path
+abbrev pub PassesIsExact : Type 0
+PassesIsExact =
+    (net : NetValue) (prefix : PrefixValue) (arc : Arc) (route : Route) → IsNet net → IsRow (least_row route) → is_session net arc ≡ true →
+    Misses net arc route → passes net prefix arc (least_row route) ≡ is_some (carry_gives net prefix arc route)
+
+-- and it is open for it exactly there
+abbrev pub OpenIsExact : Type 0
+OpenIsExact =
+    (net : NetValue) (prefix : PrefixValue) (arc : Arc) (route : Route) → IsNet net → IsRow (least_row route) → is_session net arc ≡ true →
+    Misses net arc route → opens net prefix arc (least_row route) ≡ is_some (carry_gives net prefix arc route)
