@@ -66,7 +66,7 @@ sure_exact net u policy prefix t valid inside small =
 -- ---- what the sender announces
 
 -- neither of the two communities that keep a route home is held exactly where both are lacked
-leave_exact : (net : NetValue) (c : ℕ) → IsNet net → c < 2 ^ 64 → (holds_value net no_export (bit_not w64 c) && holds_value net no_advertise (bit_not w64 c)) ≡ not (is_kept_home net c)
+pub leave_exact : (net : NetValue) (c : ℕ) → IsNet net → c < 2 ^ 64 → (holds_value net no_export (bit_not w64 c) && holds_value net no_advertise (bit_not w64 c)) ≡ not (is_kept_home net c)
 leave_exact net c valid small =
     let a = numbered net no_export valid valid.no_export in
     let b = numbered net no_advertise valid valid.no_advertise in

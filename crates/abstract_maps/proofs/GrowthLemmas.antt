@@ -25,7 +25,7 @@ pub data IsUnder (a b : Row) : Type 0 where
   under_below : IsBelow a b → IsUnder a b
 
 -- a row is inhabited or not
-uninhabited_or : (row : Row) → (IsInhabited row) ⊎ (inhabited row ≡ false)
+pub uninhabited_or : (row : Row) → (IsInhabited row) ⊎ (inhabited row ≡ false)
 uninhabited_or row = elim (bool_cases (inhabited row)) [
   | inl some ↦ inl ((inhabited_is row).0 some)
   | inr none ↦ inr none
@@ -52,7 +52,7 @@ sent_grows v a b i l =
       must = union_part b.must a.must (2 ^ v) l.must;
     })
 
-sent_inhabited : (v : ℕ) (row : Row) → IsInhabited row → IsInhabited (row_sent_by v row)
+pub sent_inhabited : (v : ℕ) (row : Row) → IsInhabited row → IsInhabited (row_sent_by v row)
 unfolding row_sent_by
 sent_inhabited v row i = let e = (inhabited_is row).1 i in rw e (record {
   weight = i.weight;
@@ -122,7 +122,7 @@ pub free_none : (u : ℕ) → inhabited (received_free u bottom) ≡ false
 unfolding received_free
 free_none u = refl
 
-free_inhabited : (u : ℕ) (row : Row) → IsInhabited row → IsInhabited (received_free u row)
+pub free_inhabited : (u : ℕ) (row : Row) → IsInhabited row → IsInhabited (received_free u row)
 unfolding received_free
 free_inhabited u row i = record {
   weight = omega arith;

@@ -10,5 +10,6 @@ pub mod LocalLemmas
 pub mod ExactLemmas
 pub mod OneRouteArcs
 pub mod FreeLemmas
+pub mod KnownLemmas
 pub mod PreferringLemmas
 pub mod OneRouterLemmas

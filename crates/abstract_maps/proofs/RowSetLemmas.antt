@@ -1,6 +1,6 @@
 -- The sets of an entry on a row against its sets on a route: what fits still fits, rows grow together, an inhabited
 -- row stays so, and the row of one route becomes the row of what becomes of the route.
-use Rattle.std.proofs.Common.{ℕ, zero, suc, ◌≡◌, ◌<◌, ◌≤◌, ◌==◌, ◌+◌, ◌^◌, ◌&&◌, ◌||◌, ◌⊎◌, inl, inr, Bool, true, false, not, List, ◌++◌, length, replicate, Option, Some, None, unwrap_or, bit_or, arith, ap, sym, ◌∙◌, refl, cond}
+use Rattle.std.proofs.Common.{ℕ, zero, suc, ◌≡◌, ◌<◌, ◌≤◌, ◌==◌, ◌+◌, ◌^◌, ◌&&◌, ◌||◌, ◌⊎◌, inl, inr, Bool, true, false, not, List, ◌++◌, length, replicate, Option, Some, None, unwrap_or, bit_or, arith, ap, sym, subst, ◌∙◌, refl, cond}
 use Rattle.std.specs.Int.{bit_not, w64}
 use Rattle.std.proofs.lemmas.Bool.Decides.{nat_tests}
 use Rattle.std.proofs.lemmas.Nat.{or_lt, and_le_l, pow_below}
@@ -21,6 +21,7 @@ use Rattle.abstract_route.specs.Fits.{Fits, Holds, LacksRest, PassesAll, StaysIn
 use Rattle.abstract_route.proofs.FitLemmas.{has-routers_of}
 use Rattle.abstract_route.proofs.RowLemmas.{part_refl, row_same}
 use Rattle.concrete_algebra.specs.Maps.{community_entries, deleted_by, under_sets, with_set, without_deleted}
+use Rattle.abstract_maps.specs.OneRoute.{IsKnown}
 use Rattle.abstract_maps.specs.RowSets.{lacked_after, lengthened, minus, replaced, replaced_origin, row_under_sets, with_deleted, with_router}
 use Rattle.abstract_maps.proofs.SetWords.{below_or_not, deleted_small, has_full, has_minus, has_not, has_single, masks_at, minus_part, not_above, small_above, union_part}
 
@@ -323,3 +324,10 @@ pub sets_small : (count lists : ℕ) (router : Router) (u : ℕ) (sets : NetSets
 unfolding under_sets
 sets_small count lists router u sets t ok sound small =
     (set_apart count sets.community (without_deleted router sets.delete t.communities) (with_deleted router sets.delete (bit_not w64 t.communities)) sound.community (delete_apart count router sets.delete t.communities ok small)).0
+
+-- on a row with no open community
+pub sets_known : (count lists : ℕ) (router : Router) (u : ℕ) (sets : NetSets) (row : Row) → IsRouter count router → IsNetSets count lists sets → IsKnown row → IsKnown (row_under_sets router u sets row)
+unfolding row_under_sets
+sets_known count lists router u sets row ok sound k =
+    set_apart count sets.community (without_deleted router sets.delete row.has) (with_deleted router sets.delete row.lacks) sound.community
+    (subst (λ (l : ℕ). AreApart (without_deleted router sets.delete row.has) (with_deleted router sets.delete l)) (sym k.1) (delete_apart count router sets.delete row.has ok k.0))

@@ -19,6 +19,7 @@ use Rattle.abstract_route.proofs.RowLemmas.{part_trans}
 use Rattle.concrete_algebra.specs.Maps.{communities_match, community_entries, community_list_permits, entry_matches, prefixes_match}
 use Rattle.abstract_maps.specs.declared.statuses.Status.{Status}
 use Rattle.abstract_maps.specs.declared.statuses.Status.TheVariants.{No, Maybe, Yes}
+use Rattle.abstract_maps.specs.OneRoute.{IsKnown}
 use Rattle.abstract_maps.specs.Statuses.{values_status, Outcomes, only, by_status, outcomes, outcome_status, community_status, certain_status, both, entry_status}
 use Rattle.abstract_maps.proofs.SetWords.{bool_cases, has_zero, has_not, small_member, masks_at}
 
@@ -192,13 +193,17 @@ step_sharp : (matches action later : Bool) → by_status (certain_status matches
 step_sharp true action later = refl
 step_sharp false action later = refl
 
-outcomes_sharp : (count : ℕ) (es : List NetCommunityEntry) (t : Route) → All (IsNetCommunityEntry count) es → t.communities < 2 ^ 64 → outcomes es (exact_row t) ≡ only (community_list_permits t.communities es)
+-- on a row with no open community
+value_known : (v : ℕ) (row : Row) → v < 2 ^ 64 → IsKnown row → values_status v row ≡ certain_status (is_part v row.has)
+value_known v row low k = ap (λ (l : ℕ). status v row.has l) k.1 ∙ value_sharp v row.has low k.0
+
+outcomes_known : (count : ℕ) (es : List NetCommunityEntry) (row : Row) → All (IsNetCommunityEntry count) es → IsKnown row → outcomes es row ≡ only (community_list_permits row.has es)
 unfolding outcomes community_list_permits
-outcomes_sharp count [] t small low = refl
-outcomes_sharp count (e ∷ es) t small low =
-    ap (λ (s : Status). by_status s e.permit (outcomes es (exact_row t))) (value_sharp e.values t.communities (All-head (IsNetCommunityEntry count) e es small).values.word low) ∙
-    ap (λ (o : Outcomes). by_status (certain_status (is_part e.values t.communities)) e.permit o) (outcomes_sharp count es t (All-tail (IsNetCommunityEntry count) e es small) low) ∙
-    step_sharp (is_part e.values t.communities) e.permit (community_list_permits t.communities es)
+outcomes_known count [] row small k = refl
+outcomes_known count (e ∷ es) row small k =
+    ap (λ (s : Status). by_status s e.permit (outcomes es row)) (value_known e.values row (All-head (IsNetCommunityEntry count) e es small).values.word k) ∙
+    ap (λ (o : Outcomes). by_status (certain_status (is_part e.values row.has)) e.permit o) (outcomes_known count es row (All-tail (IsNetCommunityEntry count) e es small) k) ∙
+    step_sharp (is_part e.values row.has) e.permit (community_list_permits row.has es)
 
 outcome_tells : (o : Outcomes) (answer : Bool) → Includes o answer → Tells (outcome_status o) answer
 outcome_tells o answer i = go o.permit o.deny answer refl refl refl where
@@ -306,11 +311,11 @@ communities_grow count router (Some position) a b ok i l =
     outcome_grows (outcomes (community_entries router position) a) (outcomes (community_entries router position) b)
     (has_one (community_entries router position) a) (outcomes_wider count (community_entries router position) a b (masks_at count router position ok) i l)
 
-communities_sharp : (count : ℕ) (router : Router) (at : Option ℕ) (t : Route) → IsRouter count router → t.communities < 2 ^ 64 → community_status router at (exact_row t) ≡ certain_status (communities_match router at t.communities)
-communities_sharp count router None t ok low = refl
-communities_sharp count router (Some position) t ok low =
-    ap (λ (o : Outcomes). outcome_status o) (outcomes_sharp count (community_entries router position) t (masks_at count router position ok) low) ∙
-    sharp_outcome (community_list_permits t.communities (community_entries router position))
+communities_known : (count : ℕ) (router : Router) (at : Option ℕ) (row : Row) → IsRouter count router → IsKnown row → community_status router at row ≡ certain_status (communities_match router at row.has)
+communities_known count router None row ok k = refl
+communities_known count router (Some position) row ok k =
+    ap (λ (o : Outcomes). outcome_status o) (outcomes_known count (community_entries router position) row (masks_at count router position ok) k) ∙
+    sharp_outcome (community_list_permits row.has (community_entries router position))
 
 pub entry_tells : (count : ℕ) (router : Router) (prefix : PrefixValue) (e : NetMapEntry) (t : Route) (row : Row) → IsRouter count router → Fits t row → Tells (entry_status router prefix e row) (entry_matches router prefix e t.communities)
 entry_tells count router prefix e t row ok f =
@@ -324,7 +329,10 @@ entry_grows count router prefix e a b ok i l =
     (community_status router e.communities a) (community_status router e.communities b)
     (certain_grows (prefixes_match router e.prefixes prefix)) (communities_grow count router e.communities a b ok i l)
 
+pub entry_known : (count : ℕ) (router : Router) (prefix : PrefixValue) (e : NetMapEntry) (row : Row) → IsRouter count router → IsKnown row → entry_status router prefix e row ≡ certain_status (entry_matches router prefix e row.has)
+entry_known count router prefix e row ok k =
+    ap (λ (s : Status). both (certain_status (prefixes_match router e.prefixes prefix)) s) (communities_known count router e.communities row ok k) ∙
+    both_sharp (prefixes_match router e.prefixes prefix) (communities_match router e.communities row.has)
+
 pub entry_sharp : (count : ℕ) (router : Router) (prefix : PrefixValue) (e : NetMapEntry) (t : Route) → IsRouter count router → t.communities < 2 ^ 64 → entry_status router prefix e (exact_row t) ≡ certain_status (entry_matches router prefix e t.communities)
-entry_sharp count router prefix e t ok low =
-    ap (λ (s : Status). both (certain_status (prefixes_match router e.prefixes prefix)) s) (communities_sharp count router e.communities t ok low) ∙
-    both_sharp (prefixes_match router e.prefixes prefix) (communities_match router e.communities t.communities)
+entry_sharp count router prefix e t ok low = entry_known count router prefix e (exact_row t) ok (low, refl)

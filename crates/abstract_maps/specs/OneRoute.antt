@@ -1,10 +1,12 @@
 -- What is true of the row of one route: nothing of it is left open, so that the answers on it are those of
--- `concrete_algebra` on the route.
+-- `concrete_algebra` on the route. And of a row with no open community: where a route of it may come over an arc, each
+-- does.
 use Rattle.std.specs.Prelude.{ℕ, ◌≡◌, ◌<◌, ◌≤◌, ◌^◌, true, false, length, IfSome}
+use Rattle.std.specs.Int.{bit_not, w64}
 use Rattle.std.specs.Option.{is_some}
 use Rattle.abstract_route.specs.declared.rows.Row.{Row}
 use Rattle.abstract_route.specs.Fits.{exact_row, exported_med, on_path}
-use Rattle.abstract_route.specs.Rows.{IsRow}
+use Rattle.abstract_route.specs.Rows.{IsInhabited, IsRow}
 use Rattle.concrete_algebra.specs.Carrying.{carry_gives}
 use Rattle.concrete_algebra.specs.Maps.{map_gives}
 use Rattle.net_types.specs.declared.arcs.Arc.{Arc}
@@ -56,3 +58,13 @@ abbrev pub OpenIsExact : Type 0
 OpenIsExact =
     (net : NetValue) (prefix : PrefixValue) (arc : Arc) (route : Route) → IsNet net → IsRow (least_row route) → is_session net arc ≡ true →
     Misses net arc route → opens net prefix arc (least_row route) ≡ is_some (carry_gives net prefix arc route)
+
+-- no community of the row is open: what may be lacked is all that may not be held
+abbrev pub IsKnown : Row → Type 0
+IsKnown row = (row.has < 2 ^ 64) × (row.lacks ≡ bit_not w64 row.has)
+
+-- an arc passes such a row exactly where it is open for it, whoever is on its paths
+abbrev pub OpenIsPasses : Type 0
+OpenIsPasses =
+    (net : NetValue) (prefix : PrefixValue) (arc : Arc) (row : Row) → IsNet net → IsInhabited row → IsKnown row →
+    opens net prefix arc row ≡ passes net prefix arc row

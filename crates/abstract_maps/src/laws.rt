@@ -2,7 +2,7 @@
 //! does nothing.
 
 ghost use Rattle.abstract_maps.specs.Laws.{ClosedIsBottom, FreeIsNoneOrInhabited, FreeIsTransfer, GivesGrows, GivesIsNoneOrInhabited, GivesIsRow, GivesIsShort, GivesIsSound, LocalIsExact, LocalIsRow, LocalIsShort, MapGrows, MapIsNoneOrInhabited, MapIsSound, OpenGrows, PassesIsOpen, PassingIsSure, SureGives, TransferGrows, TransferIsCut, TransferIsNoneOrInhabited, TransferIsRow, TransferIsShort, TransferIsSound};
-ghost use Rattle.abstract_maps.specs.OneRoute.{MapIsExact, OpenIsExact, PassesIsExact, SureIsExact, TransferIsExact};
+ghost use Rattle.abstract_maps.specs.OneRoute.{MapIsExact, OpenIsExact, OpenIsPasses, PassesIsExact, SureIsExact, TransferIsExact};
 
 /// What a policy gives of a route of a row is a route of what it makes of the row, and a policy that is sure of a
 /// row gives something of each of its routes.
@@ -59,11 +59,13 @@ pub fn local_laws()
     ensures short { LocalIsShort }
 {}
 
-/// On the row of one route nothing is left open: each answer is what becomes of the route.
+/// On the row of one route nothing is left open: each answer is what becomes of the route. An arc that is open for a
+/// row with no open community passes it.
 pub fn one_route_laws()
     ensures map { MapIsExact }
     ensures sure { SureIsExact }
     ensures transfer { TransferIsExact }
     ensures passes { PassesIsExact }
     ensures open { OpenIsExact }
+    ensures known { OpenIsPasses }
 {}

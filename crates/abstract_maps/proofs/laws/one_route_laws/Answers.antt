@@ -1,4 +1,5 @@
 use Rattle.abstract_maps.proofs.ExactLemmas.{sure_exact}
+use Rattle.abstract_maps.proofs.KnownLemmas.{open_is_passes}
 use Rattle.abstract_maps.proofs.MapLemmas.{map_exact}
 use Rattle.abstract_maps.proofs.OneRouteArcs.{open_is_exact, passes_is_exact, transfer_exact}
 use Rattle.abstract_maps.proofs.laws.one_route_laws.Goals as goal
@@ -17,3 +18,6 @@ returns-clause-passes c = passes_is_exact
 
 pub returns-clause-open : goal.returns-clause-open
 returns-clause-open c = open_is_exact
+
+pub returns-clause-known : goal.returns-clause-known
+returns-clause-known c = open_is_passes
