@@ -4,10 +4,11 @@ ghost use Rattle.std.specs.Prelude.{◌≡◌, ◌<◌, ◌≤◌, ◌+◌, ◌^
 ghost use Rattle.abstract_maps.specs.AbstractMap.{by_entry, entry_row};
 ghost use Rattle.abstract_maps.specs.Statuses.{entry_status};
 
-use crate::lists::{on_communities, prefixes_match};
+use crate::lists::on_communities;
 use crate::row_sets::row_under_sets;
 use crate::statuses::{Status, of_both, of_match};
 use abstract_route::{Row, bottom_value, join};
+use concrete_algebra::prefixes_match;
 use net_types::{NetMapEntry, Prefix, Router};
 
 // How the entry's matches stand to the row's routes.

@@ -2,12 +2,11 @@
 
 ghost use Rattle.std.specs.Prelude.{◌≡◌, ◌<◌, ◌≤◌, ◌+◌, ◌^◌};
 ghost use Rattle.std.specs.Int.{bit_not, w64};
-ghost use Rattle.concrete_algebra.specs.Maps.{with_set, without_deleted};
 ghost use Rattle.net_types.specs.Better.{origin_rank};
 ghost use Rattle.abstract_maps.specs.RowSets.{lacked_after, lengthened, replaced, replaced_origin, row_under_sets, with_deleted, with_router};
 
-use crate::lists::deleted_at;
 use abstract_route::{Range, Row};
+use concrete_algebra::{community_entries, deleted_by, with_set, without_deleted};
 use net_types::{Bits64, NetSetCommunity, NetSets, Origin, Router};
 
 fn replaced(number: Option<u32>, range: Range) -> Range
@@ -47,35 +46,17 @@ fn replaced_origin(origin: Option<Origin>, range: Range) -> Range
     }
 }
 
-fn without_deleted(router: &Router, position: Option<u32>, held: Bits64) -> Bits64
-    ensures { result ≡ without_deleted router.now position held }
-{
-    match position {
-        None => held,
-        Some(position) => held.minus(deleted_at(router, position)),
-    }
-}
-
+// The communities that may be lacked where a list's are deleted, if one is named.
 fn with_deleted(router: &Router, position: Option<u32>, lacked: Bits64) -> Bits64
     ensures { result ≡ with_deleted router.now position lacked }
 {
     match position {
         None => lacked,
-        Some(position) => lacked.union(deleted_at(router, position)),
+        Some(position) => lacked.union(deleted_by(community_entries(router, position))),
     }
 }
 
-fn held_after(community: NetSetCommunity, held: Bits64) -> Bits64
-    ensures { result ≡ with_set community held }
-{
-    match community {
-        NetSetCommunity::Keep => held,
-        NetSetCommunity::Replace(values) => values,
-        NetSetCommunity::Add(values) => held.union(values),
-        NetSetCommunity::Clear => Bits64::EMPTY,
-    }
-}
-
+// The communities that may be lacked after `set community`.
 fn lacked_after(community: NetSetCommunity, lacked: Bits64) -> Bits64
     ensures { result ≡ lacked_after community lacked }
 {
@@ -131,7 +112,7 @@ pub(crate) fn row_under_sets(router: &Router, u: u8, sets: &NetSets, row: &Row) 
         length: lengthened(sets.prepend, row.length),
         origin: replaced_origin(sets.origin, row.origin),
         med: replaced(sets.med, row.med),
-        has: held_after(sets.community, held),
+        has: with_set(sets.community, held),
         lacks: lacked_after(sets.community, lacked),
         may: with_router(sets.prepend, u, row.may),
         must: with_router(sets.prepend, u, row.must),

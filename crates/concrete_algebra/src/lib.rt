@@ -29,5 +29,7 @@ pub use laws::{
 };
 pub use local_routes::local_route;
 pub use maps::run_map;
+pub use matches::{community_entries, prefixes_match};
 pub use orders::better;
+pub use sets::{deleted_by, with_set, without_deleted};
 pub use stability::{StableAnswer, check_stable};

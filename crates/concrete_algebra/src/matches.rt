@@ -48,8 +48,8 @@ fn prefix_entries(router: &Router, position: u32) -> &[PrefixEntry]
     }
 }
 
-// The entries of the router's community list at a position.
-pub(crate) fn community_entries(router: &Router, position: u32) -> &[NetCommunityEntry]
+/// The entries of the router's community list at a position.
+pub fn community_entries(router: &Router, position: u32) -> &[NetCommunityEntry]
     ensures { result.now ≡ community_entries router.now position }
 {
     match router.community_lists.as_slice().get(position as usize) {
@@ -58,8 +58,8 @@ pub(crate) fn community_entries(router: &Router, position: u32) -> &[NetCommunit
     }
 }
 
-// Whether the prefix passes the prefix list that an entry names, if it names one.
-fn prefixes_match(router: &Router, position: Option<u32>, prefix: &Prefix) -> bool
+/// Whether the prefix passes the prefix list that an entry names, if it names one.
+pub fn prefixes_match(router: &Router, position: Option<u32>, prefix: &Prefix) -> bool
     ensures { result ≡ prefixes_match router.now position prefix.now }
 {
     match position {

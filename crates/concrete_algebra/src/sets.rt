@@ -8,9 +8,9 @@ use crate::matches::community_entries;
 use net_types::{Bits64, NetCommunityEntry, NetSetCommunity, NetSets, NoMemory, Route, Router};
 use std::alloc::Global;
 
-// The communities that a list deletes.
+/// The communities that a list deletes: those for which the first entry that names them is a permit.
 #[tactic(auto, unfolding(crate::specs::Maps::deleted_by))]
-fn deleted_by(entries: &[NetCommunityEntry]) -> Bits64
+pub fn deleted_by(entries: &[NetCommunityEntry]) -> Bits64
     ensures { result ≡ deleted_by entries.now }
 {
     match entries.split_first() {
@@ -26,8 +26,8 @@ fn deleted_by(entries: &[NetCommunityEntry]) -> Bits64
     }
 }
 
-// The communities that are left where a list's are deleted, if one is named.
-fn without_deleted(router: &Router, position: Option<u32>, held: Bits64) -> Bits64
+/// The communities that are left where a list's are deleted, if one is named.
+pub fn without_deleted(router: &Router, position: Option<u32>, held: Bits64) -> Bits64
     ensures { result ≡ without_deleted router.now position held }
 {
     match position {
@@ -36,8 +36,8 @@ fn without_deleted(router: &Router, position: Option<u32>, held: Bits64) -> Bits
     }
 }
 
-// The communities after `set community`.
-fn with_set(set: NetSetCommunity, held: Bits64) -> Bits64
+/// The communities after `set community`.
+pub fn with_set(set: NetSetCommunity, held: Bits64) -> Bits64
     ensures { result ≡ with_set set held }
 {
     match set {

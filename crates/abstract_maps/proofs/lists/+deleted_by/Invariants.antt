@@ -1,5 +1,0 @@
-use Rattle.std.proofs.Common.{length}
-use Rattle.abstract_maps.proofs.lists.+deleted_by.Given as goal
-
-abbrev pub decreases-deleted_by : goal.decreases-deleted_by
-decreases-deleted_by l = length l.entries.now
