@@ -204,4 +204,4 @@ communities_read_back first second small other =
     halves_make _ _ first second (numbers_read_back 0 65535 first (omega arith) (omega arith) small) (numbers_read_back 0 65535 second (omega arith) (omega arith) other)
 
 pub named_communities_are_read : NamedCommunitiesAreRead
-named_communities_are_read = (refl, refl)
+named_communities_are_read = (refl, refl, refl, refl)

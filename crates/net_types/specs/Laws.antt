@@ -253,4 +253,6 @@ CommunitiesReadBack =
     community_of (decimal first then codes ":" then decimal second) ≡ Some (first * 65536 + second)
 
 abbrev pub NamedCommunitiesAreRead : Type 0
-NamedCommunitiesAreRead = (community_of (codes "no-export") ≡ Some no_export) × (community_of (codes "no-advertise") ≡ Some no_advertise)
+NamedCommunitiesAreRead =
+    (community_of (codes "no-export") ≡ community_of (codes "65535:65281")) × (community_of (codes "no-advertise") ≡ community_of (codes "65535:65282")) ×
+    (community_of (codes "no-export") ≡ Some no_export) × (community_of (codes "no-advertise") ≡ Some no_advertise)

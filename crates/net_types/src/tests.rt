@@ -1,8 +1,8 @@
-//! Texts of addresses, prefixes, numbers and names, the order of prefixes, and sets.
+//! Texts of addresses, prefixes, numbers, communities and names, the order of prefixes, and sets.
 
 use crate::{
     Bits64, FailSet, Prefix, address_text, is_host, is_name, prefix_text, read_address,
-    read_interface, read_number,
+    read_community, read_interface, read_number,
 };
 
 #[test]
@@ -130,6 +130,24 @@ fn numbers_and_names(rt: HostRuntime) {
 }
 
 #[test]
+fn communities(rt: HostRuntime) {
+    let cases = [
+        (b"1:2".as_slice(), Some(0x0001_0002)),
+        (b"0:65535", Some(0x0000_ffff)),
+        (b"no-export", Some(0xffff_ff01)),
+        (b"no-advertise", Some(0xffff_ff02)),
+        (b"65536:0", None),
+        (b"01:2", None),
+        (b"1:2:3", None),
+        (b"1", None),
+        (b"no-exports", None),
+    ];
+    for (text, wanted) in cases {
+        assert_eq!(rt; read_community(text), wanted);
+    }
+}
+
+#[test]
 fn ends_of_names(rt: HostRuntime) {
     // the bytes beside the ranges of letters and digits, and of what is printed
     for text in [b"/".as_slice(), b":", b"@", b"[", b"`", b"{", b"\xc3\xa9"] {
@@ -215,4 +233,11 @@ fn sets_of_numbers(rt: HostRuntime) {
         Bits64::EMPTY.with(63)
     );
     assert!(rt; set.minus(Bits64::FULL).is_empty() && set.common(Bits64::FULL) == set);
+    let low = Bits64::EMPTY.with(1).with(2);
+    let high = Bits64::EMPTY.with(2).with(3);
+    assert_eq!(rt; low.union(high), Bits64::from_word(0b1110));
+    assert_eq!(rt; low.common(high), Bits64::from_word(0b0100));
+    assert_eq!(rt; low.minus(high), Bits64::from_word(0b0010));
+    assert!(rt; low.has(1) && low.has(2) && !low.has(0) && !low.has(3));
+    assert!(rt; !low.is_part(high) && low.common(high).is_part(high));
 }
