@@ -1,6 +1,6 @@
 -- A candidate that beats another has better routes alone: step by step, what the worst and the best decide the
 -- routes decide in the same way.
-use Rattle.std.proofs.Common.{ℕ, ◌≡◌, ◌<◌, ◌≤◌, ◌==◌, ◌⊎◌, inl, inr, Bool, true, false, List, [], ◌∷◌, length, Option, Some, None, arith, sym, subst, refl, if◌then◌else◌, ◌^◌}
+use Rattle.std.proofs.Common.{ℕ, ◌≡◌, ◌<◌, ◌≤◌, ◌==◌, ◌⊎◌, inl, inr, Bool, true, false, List, [], ◌∷◌, length, Option, Some, None, arith, sym, subst, refl, if◌then◌else◌, ◌^◌, ◌↔◌, ◌∙◌}
 use Rattle.std.specs.declared.cmp.Ordering.{Ordering}
 use Rattle.std.specs.declared.cmp.Ordering.TheVariants.{Less, Equal, Greater}
 use Rattle.std.specs.Ordering.{is_lt, nat_cmp, ordering_then}
@@ -147,6 +147,13 @@ beats_is_exact net a b r s w v f g = first_same
     (subst (λ n. by_med a b ≡ med_step net r.source s.source n s.med) (sym w.med)
     (subst (λ n. by_med a b ≡ med_step net r.source s.source a.row.med.high n) (sym v.med)
     (med_same net a.sender b.sender r.source s.source f g a.row.med.high b.row.med.low)))
+
+pub beats_is_each : (net : NetValue) (a b : Candidate) (worst best : Route) → IsOf net a worst → IsWorst worst a.row → IsOf net b best → IsBest best b.row →
+    (beats a b ≡ true) ↔ ((r s : Route) → IsOf net a r → IsOf net b s → is_better net r s ≡ true)
+beats_is_each net a b worst best f w g v = (
+  (λ e r s p q. beats_is_sound net a b r s e p q),
+  (λ each. beats_is_exact net a b worst best w v f.1 g.1 ∙ each worst best f g),
+)
 
 from_its_sender : (net : NetValue) (source : Source) → HasSender net source → IsFrom net (learned_from net source) source
 from_its_sender net Local h = tt

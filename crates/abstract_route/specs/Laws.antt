@@ -126,6 +126,13 @@ BeatsIsExact =
     (net : NetValue) (a b : Candidate) (r s : Route) → IsWorst r a.row → IsBest s b.row →
     IsFrom net a.sender r.source → IsFrom net b.sender s.source → beats a b ≡ is_better net r s
 
+-- where the worst of the one and the best of the other are routes of theirs, it beats another exactly where each of its
+-- routes is better than each of the other's
+abbrev pub BeatsIsEach : Type 0
+BeatsIsEach =
+    (net : NetValue) (a b : Candidate) (worst best : Route) → IsOf net a worst → IsWorst worst a.row → IsOf net b best → IsBest best b.row →
+    (beats a b ≡ true) ↔ ((r s : Route) → IsOf net a r → IsOf net b s → is_better net r s ≡ true)
+
 -- of candidates of one route each, the one whose route is better beats the other, and no other does
 abbrev pub BeatsOfRoutes : Type 0
 BeatsOfRoutes =

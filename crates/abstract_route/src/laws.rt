@@ -2,7 +2,7 @@
 //! does nothing, and `bottom_value` says what `BOTTOM` is.
 
 ghost use Rattle.std.specs.Prelude.{◌≡◌};
-ghost use Rattle.abstract_route.specs.Laws.{BelowIsReflexive, BelowIsTransitive, BelowIsAntisymmetric, JoinIsLeast, JoinIsRow, BottomIsRow, BottomIsBelow, BottomFitsNone, RankRises, RankIsStrict, RankIsBounded, InhabitedIs, InhabitedUp, InhabitedHasRoute, FitsUp, FitIsInhabited, ExactIsLeast, ExactIsRow, ExactFitsOne, LocalIsIn, LearnedIsIn, CarriedIsRow, CarriedIsExact, CarriedUp, CarriedFits, BeatsIsSound, BeatsIsExact, BeatsOfRoutes, RouteIsOf};
+ghost use Rattle.abstract_route.specs.Laws.{BelowIsReflexive, BelowIsTransitive, BelowIsAntisymmetric, JoinIsLeast, JoinIsRow, BottomIsRow, BottomIsBelow, BottomFitsNone, RankRises, RankIsStrict, RankIsBounded, InhabitedIs, InhabitedUp, InhabitedHasRoute, FitsUp, FitIsInhabited, ExactIsLeast, ExactIsRow, ExactFitsOne, LocalIsIn, LearnedIsIn, CarriedIsRow, CarriedIsExact, CarriedUp, CarriedFits, BeatsIsSound, BeatsIsExact, BeatsIsEach, BeatsOfRoutes, RouteIsOf};
 ghost use Rattle.abstract_route.specs.Rows.{bottom};
 
 use crate::{BOTTOM, Row};
@@ -77,10 +77,11 @@ pub fn beats_law()
     ensures { BeatsIsSound }
 {}
 
-/// A candidate beats another exactly where its worst route is better than the best of the other; where each has
-/// one route, exactly where that route is better.
+/// A candidate beats another exactly where its worst route is better than the best of the other; so where they have
+/// such routes, exactly where each of its routes is better. Candidates of one route each beat as their routes do.
 pub fn beats_exactly_law()
     ensures worst { BeatsIsExact }
+    ensures each { BeatsIsEach }
     ensures routes { BeatsOfRoutes }
     ensures own { RouteIsOf }
 {}

@@ -1,12 +1,14 @@
 //! Rows: what is known of the routes that may come to a router, before it is known which one does.
 //!
-//! Decides: the order of rows and their join, which routes a row speaks of, and when every route of one
-//! candidate is better than every route of another. What a policy makes of a row, other crates decide.
+//! Decides: the order of rows and their join, which routes a row speaks of, and by a test that suffices, whether
+//! every route of one candidate is better than every route of another. What a policy makes of a row, other crates
+//! decide.
 //! Stands on: `net_types` alone. No call takes memory.
 //! Promises: the join is the least row above both; each test answers exactly its definition in `specs/`; and
 //! the laws, stated in `specs/Laws.antt`, say that rows are ordered, that rising chains of them end, that a
-//! route that fits a row fits each row above it, and that a candidate that beats another has better routes
-//! alone. Not: that any router behaves so.
+//! route that fits a row fits each row above it, that an inhabited row has a route where an origin and a path
+//! are in its ranges, and that a candidate that beats another has better routes alone, and beats it wherever its
+//! worst route is better than the other's best. Not: that any router behaves so.
 #![tactic(auto)]
 
 mod candidates;
