@@ -1,10 +1,11 @@
-//! What is sent and taken in over link 0, from b to a. The map puts its router in front twice, and sets weight 5.
+//! What is sent and taken in over link 0, from b to a. The map puts its router in front twice, and sets weight 5,
+//! where no other is given.
 
 use super::networks::{
     NOTHING, Plain, Side, is_entry, is_wanted, network, permit_all, prefix, route_of,
 };
 use crate::{export, import};
-use net_types::{Arc, NetMapEntry, Origin};
+use net_types::{Arc, Bits64, NetMapEntry, NetSetCommunity, Origin};
 use std::alloc::Global;
 use std::process::Abort;
 use std::test::Fail;
@@ -19,6 +20,7 @@ const FROM_C: Arc = Arc {
     down: true,
 };
 
+#[derive(Clone, Copy)]
 struct Case {
     name: &'static str,
     side: Side,
@@ -116,7 +118,7 @@ static EXPORTS: [Case; 7] = [
     },
 ];
 
-static IMPORTS: [Case; 5] = [
+static IMPORTS: [Case; 6] = [
     Case {
         name: "weight and preference begin anew",
         side: Side::Open,
@@ -131,6 +133,18 @@ static IMPORTS: [Case; 5] = [
             ..SENT
         },
         wanted: None,
+    },
+    Case {
+        name: "all communities are taken in, NO_EXPORT too",
+        side: Side::Open,
+        before: Plain {
+            held: 0b011_1111,
+            ..SENT
+        },
+        wanted: Some(Plain {
+            held: 0b011_1111,
+            ..TAKEN
+        }),
     },
     Case {
         name: "the last arc is the source",
@@ -159,6 +173,56 @@ static IMPORTS: [Case; 5] = [
     },
 ];
 
+// What a map that sets these makes of what is sent.
+#[derive(Clone, Copy)]
+struct MapCase {
+    name: &'static str,
+    community: NetSetCommunity,
+    med: Option<u32>,
+    before: Plain,
+    wanted: Option<Plain>,
+}
+
+// NO_EXPORT is looked for before the map, and MED is cleared before it.
+fn map_cases() -> [MapCase; 3] {
+    [
+        MapCase {
+            name: "a map that takes NO_EXPORT away",
+            community: NetSetCommunity::Clear,
+            med: None,
+            before: Plain {
+                held: 0b010_0000,
+                ..AT_B
+            },
+            wanted: None,
+        },
+        MapCase {
+            name: "a map that adds NO_EXPORT",
+            community: NetSetCommunity::Add(Bits64::from_word(0b010_0000)),
+            med: None,
+            before: AT_B,
+            wanted: Some(Plain {
+                held: 0b010_0000,
+                ..SENT
+            }),
+        },
+        MapCase {
+            name: "a map that sets the MED of a learned route",
+            community: NetSetCommunity::Keep,
+            med: Some(7),
+            before: Plain {
+                over: Some(FROM_C),
+                ..AT_B
+            },
+            wanted: Some(Plain {
+                med: 7,
+                over: Some(FROM_C),
+                ..SENT
+            }),
+        },
+    ]
+}
+
 fn sends(rt: &impl Abort, alloc: Global, entry: NetMapEntry, case: &Case) -> Result<(), Fail> {
     let name = case.name;
     assert!(rt; is_entry(&entry), "{name}");
@@ -179,6 +243,19 @@ fn takes(rt: &impl Abort, alloc: Global, entry: NetMapEntry, case: &Case) -> Res
     Ok(())
 }
 
+fn sends_by_map(rt: &impl Abort, alloc: Global, case: &MapCase) -> Result<(), Fail> {
+    let mut entry = permit_all();
+    entry.sets.community = case.community;
+    entry.sets.med = case.med;
+    let case = Case {
+        name: case.name,
+        side: Side::Map,
+        before: case.before,
+        wanted: case.wanted,
+    };
+    sends(rt, alloc, entry, &case)
+}
+
 fn entry() -> NetMapEntry {
     let mut entry = permit_all();
     entry.sets.weight = Some(5);
@@ -190,6 +267,9 @@ fn entry() -> NetMapEntry {
 fn what_b_sends_to_a(rt: HostRuntime) -> Result<(), Fail> {
     for case in &EXPORTS {
         sends(&rt, rt.alloc(), entry(), case)?;
+    }
+    for case in &map_cases() {
+        sends_by_map(&rt, rt.alloc(), case)?;
     }
     Ok(())
 }

@@ -1,4 +1,4 @@
-//! Labellings, stable and not. Router a has a `network` line. Over link 2, between b and c, the map sets local
+//! Labellings, stable and not. Router a has a `network` line, where nothing else is said. Over link 2, between b and c, the map sets local
 //! preference 200, so that each prefers the way through the other.
 
 ghost use Rattle.std.specs.Prelude.{◌≡◌, ◌<◌, ◌^◌, ℕ, Some};
@@ -16,8 +16,8 @@ use std::test::Fail;
 
 struct Case {
     name: &'static str,
-    /// Whether a has its `network` line.
-    network: bool,
+    /// Which of a, b and c have a `network` line.
+    network: [bool; 3],
     /// Whether b redistributes OSPF, and its distance.
     ospf: Side,
     distance: Option<u32>,
@@ -81,9 +81,28 @@ const C_BY_B: Plain = Plain {
     ..DIRECT
 };
 
+// The ways of a to the others.
+const A_FROM_B: Plain = Plain {
+    path: &[1],
+    over: Some(Arc {
+        link: 0,
+        down: true,
+    }),
+    ..DIRECT
+};
+
+const A_FROM_C: Plain = Plain {
+    path: &[2],
+    over: Some(Arc {
+        link: 1,
+        down: true,
+    }),
+    ..DIRECT
+};
+
 const DISAGREE: Case = Case {
     name: "c goes through b",
-    network: true,
+    network: [true, false, false],
     ospf: Side::Closed,
     distance: None,
     failed: &[],
@@ -93,7 +112,7 @@ const DISAGREE: Case = Case {
     wanted: StableAnswer::Stable,
 };
 
-static CASES: [Case; 14] = [
+static CASES: [Case; 17] = [
     DISAGREE,
     Case {
         name: "b goes through c",
@@ -152,7 +171,7 @@ static CASES: [Case; 14] = [
     },
     Case {
         name: "nobody originates",
-        network: false,
+        network: [false; 3],
         a: None,
         b: None,
         c: None,
@@ -203,6 +222,31 @@ static CASES: [Case; 14] = [
         wanted: StableAnswer::Breaks(1),
         ..DISAGREE
     },
+    Case {
+        name: "a second owner with a `network` line, that holds a learned route",
+        network: [true, true, false],
+        failed: &[2],
+        b: Some(B),
+        c: Some(C),
+        wanted: StableAnswer::Breaks(1),
+        ..DISAGREE
+    },
+    Case {
+        name: "the one of two ways that tie",
+        network: [false, true, true],
+        a: Some(A_FROM_B),
+        b: Some(OWN),
+        c: Some(OWN),
+        ..DISAGREE
+    },
+    Case {
+        name: "the other of two ways that tie",
+        network: [false, true, true],
+        a: Some(A_FROM_C),
+        b: Some(OWN),
+        c: Some(OWN),
+        ..DISAGREE
+    },
 ];
 
 // The distances of a, b and c: b's alone may be there.
@@ -222,6 +266,10 @@ fn label(alloc: Global, plain: &Option<Plain>) -> Result<Option<Route>, NoMemory
     }
 }
 
+fn owner(network: bool) -> Origins {
+    Origins { network, ..NOTHING }
+}
+
 fn answer(
     alloc: Global,
     entry: NetMapEntry,
@@ -233,16 +281,14 @@ fn answer(
     requires communities { IsPlace 1 entry.communities }
     requires seq { entry.seq < 20 }
 {
-    let a = Origins {
-        network: case.network,
-        ..NOTHING
-    };
+    let [a, b, c] = case.network;
+    let a = owner(a);
     let b = Origins {
         ospf: case.ospf,
-        ..NOTHING
+        ..owner(b)
     };
     let imports = [Side::Open, Side::Open, Side::Map];
-    let net = network(alloc, entry, [a, b, NOTHING], imports, [Side::Open; 3])?;
+    let net = network(alloc, entry, [a, b, owner(c)], imports, [Side::Open; 3])?;
     let labels = [
         label(alloc, &case.a)?,
         label(alloc, &case.b)?,
