@@ -8,3 +8,4 @@ pub mod CommunityLines
 pub mod MapRows
 pub mod MapLines
 pub mod MapPlaces
+pub mod Laws

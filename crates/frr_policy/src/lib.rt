@@ -13,6 +13,7 @@ mod blanks;
 mod community_lines;
 mod copies;
 mod fronts;
+mod laws;
 mod line_words;
 mod map_lines;
 mod map_places;
@@ -27,6 +28,7 @@ mod values;
 
 pub use blanks::Words;
 pub use community_lines::read_community_list_line;
+pub use laws::{numbering_laws, refusal_laws};
 pub use line_words::words;
 pub use map_lines::read_map_line;
 pub use map_steps::MapStep;

@@ -14,12 +14,13 @@ fn is(word: Option<&[u8]>, wanted: &str) -> bool {
     }
 }
 
-static LINES: [(&str, &str, &str, &str); 5] = [
+static LINES: [(&str, &str, &str, &str); 6] = [
     ("", "", "", ""),
     (" \t ", "", "", ""),
     ("exit", "exit", "", ""),
     (" \tmatch\tcommunity  C ", "match", "community", "C"),
     ("a b!c ", "a", "b!c", ""),
+    ("a\rb c\u{b}d e\u{a0}f", "a\rb", "c\u{b}d", "e\u{a0}f"),
 ];
 
 #[test]

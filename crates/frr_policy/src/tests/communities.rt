@@ -17,7 +17,7 @@ fn read(
 type Accepted = (&'static str, &'static str, u32, bool, &'static [u32]);
 
 // The values of the well-known communities are those of RFC 1997.
-static ACCEPTED: [Accepted; 5] = [
+static ACCEPTED: [Accepted; 6] = [
     (
         "standard TAG seq 5 permit 65000:1",
         "TAG",
@@ -41,6 +41,7 @@ static ACCEPTED: [Accepted; 5] = [
         &[65_538, 65_538],
     ),
     ("standard standard permit 0:1", "standard", 5, true, &[1]),
+    ("standard 07 permit 0:1", "07", 5, true, &[1]),
 ];
 
 #[test]
@@ -55,7 +56,7 @@ fn community_list_lines(rt: HostRuntime) -> Result<(), Fail> {
     Ok(())
 }
 
-static BAD: [&str; 18] = [
+static BAD: [&str; 20] = [
     "",
     "standard",
     "TAG permit 1:1",
@@ -70,6 +71,8 @@ static BAD: [&str; 18] = [
     "standard T permit 1:2:3",
     "standard T permit 1",
     "standard T permit 1:",
+    "standard T permit :1",
+    "standard T permit 1::2",
     "standard T permit 1:01",
     "standard T permit -1:1",
     "standard T permit no-export additive",
@@ -103,6 +106,8 @@ fn a_number_and_a_standard_name_are_one_list(rt: HostRuntime) -> Result<(), Fail
         ("standard 7 permit 1:1", Ok(10)),
         ("standard 7 seq 5 permit 1:1", Err(LineRefusal::Repeated)),
         ("8 seq 5 permit 1:1", Ok(5)),
+        ("7 seq 3 deny no-export", Ok(3)),
+        ("standard 07 permit 1:1", Ok(5)),
     ];
     for (line, wanted) in cases {
         let list = list_7(&rt)?;

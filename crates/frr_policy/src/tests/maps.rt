@@ -81,7 +81,7 @@ fn a_block_with_each_row(rt: HostRuntime) -> Result<(), Fail> {
     Ok(())
 }
 
-static BAD: [&str; 33] = [
+static BAD: [&str; 36] = [
     "route-map",
     "route-map M",
     "route-map M permit",
@@ -114,6 +114,9 @@ static BAD: [&str; 33] = [
     "set comm-list C delete all",
     "set as-path prepend",
     "set as-path prepend 0",
+    "set as-path prepend 1 x",
+    "set as-path prepend 1 01",
+    "set as-path prepend 1 4294967296",
     "set as-path prepend 1 2 3 4 5 6 7 8 9 10 11",
 ];
 
@@ -143,6 +146,42 @@ fn refused_lines(rt: HostRuntime) -> Result<(), Fail> {
     }
     let refusal = read(&rt, "set metric low", &[], None).err();
     assert_eq!(rt; refusal, Some(LineRefusal::OutOfPlace));
+    Ok(())
+}
+
+// A line of a block, another behind it, and why that is refused.
+static BEHIND: [(&str, &str, LineRefusal); 5] = [
+    (
+        "set community none",
+        "set community 1:1",
+        LineRefusal::Repeated,
+    ),
+    (
+        "set community 1:1",
+        "set community none",
+        LineRefusal::Repeated,
+    ),
+    ("set metric 1", "set metric x", LineRefusal::BadValue),
+    (
+        "set as-path prepend 1",
+        "set as-path prepend 0",
+        LineRefusal::BadValue,
+    ),
+    (
+        "set comm-list C delete",
+        "set comm-list D",
+        LineRefusal::BadValue,
+    ),
+];
+
+#[test]
+fn lines_behind_one_of_their_row(rt: HostRuntime) -> Result<(), Fail> {
+    let fresh = begun(&rt, "route-map M permit 1")?;
+    for (first, second, wanted) in &BEHIND {
+        let entry = changed(&rt, first, &fresh)?;
+        let refusal = changed(&rt, second, &entry).err();
+        assert_eq!(rt; refusal, Some(*wanted), "{second}");
+    }
     Ok(())
 }
 
@@ -204,5 +243,31 @@ fn numbers_of_map_entries(rt: HostRuntime) -> Result<(), Fail> {
         let refusal = read(&rt, line, &[map], None).err();
         assert_eq!(rt; refusal, wanted, "{line}");
     }
+    Ok(())
+}
+
+// Whether a step begins entry 20 of `M`, a deny that matches every route and sets no weight.
+fn begins_deny_20(step: &MapStep) -> bool {
+    match step {
+        MapStep::Begin(name, entry) => {
+            name.as_str() == "M"
+                && entry.seq == 20
+                && !entry.permit
+                && entry.prefixes.is_none()
+                && entry.sets.weight.is_none()
+        }
+        MapStep::Change(_entry) => false,
+    }
+}
+
+#[test]
+fn an_entry_beside_one_that_is_open(rt: HostRuntime) -> Result<(), Fail> {
+    let map = map_of(&rt, 10)?;
+    let open = changed(&rt, "set weight 1", &begun(&rt, "route-map M permit 10")?)?;
+    let step = read(&rt, "route-map M deny 20", &[map], Some(&open))?;
+    assert!(rt; begins_deny_20(&step));
+    let map = map_of(&rt, 10)?;
+    let again = read(&rt, "route-map M permit 10", &[map], Some(&open));
+    assert_eq!(rt; again.err(), Some(LineRefusal::Repeated));
     Ok(())
 }

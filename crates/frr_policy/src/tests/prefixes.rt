@@ -16,7 +16,7 @@ fn read(
 // A line, and its entry: number, action, prefix, least and greatest length.
 type Accepted = (&'static str, u32, bool, &'static str, u8, u8);
 
-static ACCEPTED: [Accepted; 9] = [
+static ACCEPTED: [Accepted; 12] = [
     ("P permit any", 5, true, "0.0.0.0/0", 0, 32),
     (
         "P seq 4294967295 deny 10.0.0.0/8",
@@ -47,6 +47,23 @@ static ACCEPTED: [Accepted; 9] = [
     ),
     ("P permit 0.0.0.0/0 le 32", 5, true, "0.0.0.0/0", 0, 32),
     ("seq permit 1.2.3.4/32", 5, true, "1.2.3.4/32", 32, 32),
+    ("P permit 10.0.0.0/8 ge 32", 5, true, "10.0.0.0/8", 32, 32),
+    (
+        "! permit 1.2.3.4/32 ge 32 le 32",
+        5,
+        true,
+        "1.2.3.4/32",
+        32,
+        32,
+    ),
+    (
+        "a-name-of-63-bytes-0123456789-0123456789-0123456789-0123456789~ permit any",
+        5,
+        true,
+        "0.0.0.0/0",
+        0,
+        32,
+    ),
 ];
 
 #[test]
@@ -68,7 +85,7 @@ fn prefix_list_lines(rt: HostRuntime) -> Result<(), Fail> {
     Ok(())
 }
 
-static BAD: [&str; 25] = [
+static BAD: [&str; 29] = [
     "",
     "P",
     "P permit",
@@ -94,6 +111,10 @@ static BAD: [&str; 25] = [
     "P permit 10.0.0.0/8 ge 9 le 24 le 24",
     "P permit 10.0.0.0/8 le 18446744073709551640",
     "P permit permit any",
+    "P permit 10.0.0.0/8 le 24 le 16",
+    "P permit 10.0.0.0/8 le 16 ge 24",
+    "a-name-of-64-bytes-0123456789-0123456789-0123456789-0123456789-x permit any",
+    "\u{e9} permit any",
 ];
 
 #[test]
@@ -127,9 +148,77 @@ static FULL: [u32; 64] = [
     51, 52, 53, 54, 55, 56, 57, 58, 59, 60, 61, 62, 63, 64,
 ];
 
+// As many entries, the last with the greatest number.
+static FULL_TO_THE_END: [u32; 64] = [
+    1,
+    2,
+    3,
+    4,
+    5,
+    6,
+    7,
+    8,
+    9,
+    10,
+    11,
+    12,
+    13,
+    14,
+    15,
+    16,
+    17,
+    18,
+    19,
+    20,
+    21,
+    22,
+    23,
+    24,
+    25,
+    26,
+    27,
+    28,
+    29,
+    30,
+    31,
+    32,
+    33,
+    34,
+    35,
+    36,
+    37,
+    38,
+    39,
+    40,
+    41,
+    42,
+    43,
+    44,
+    45,
+    46,
+    47,
+    48,
+    49,
+    50,
+    51,
+    52,
+    53,
+    54,
+    55,
+    56,
+    57,
+    58,
+    59,
+    60,
+    61,
+    62,
+    63,
+    4_294_967_295,
+];
+
 #[test]
 fn numbers_of_entries(rt: HostRuntime) -> Result<(), Fail> {
-    let cases: [(&[u32], &str, Result<u32, LineRefusal>); 10] = [
+    let cases: [(&[u32], &str, Result<u32, LineRefusal>); 13] = [
         (&[5, 12], "P permit any", Ok(15)),
         (&[10], "P permit any", Ok(15)),
         (&[4], "P permit any", Ok(5)),
@@ -140,6 +229,17 @@ fn numbers_of_entries(rt: HostRuntime) -> Result<(), Fail> {
         (&FULL, "P seq 64 permit any", Err(LineRefusal::Repeated)),
         (&FULL, "P permit any", Err(LineRefusal::OutOfLimit)),
         (&FULL, "P seq 64 permit all", Err(LineRefusal::BadValue)),
+        (&FULL_TO_THE_END, "P permit any", Err(LineRefusal::BadValue)),
+        (
+            &FULL_TO_THE_END,
+            "P seq 4294967295 permit any",
+            Err(LineRefusal::Repeated),
+        ),
+        (
+            &FULL_TO_THE_END,
+            "P seq 64 permit any",
+            Err(LineRefusal::OutOfLimit),
+        ),
     ];
     for (numbers, line, wanted) in cases {
         let list = list_of(&rt, numbers)?;
