@@ -1,7 +1,9 @@
 pub mod BgpLemmas
+pub mod CauseLemmas
 pub mod ConfigLemmas
 pub mod EntryLemmas
 pub mod FirstRefusalLemmas
+pub mod FoundLemmas
 pub mod KeptLemmas
 pub mod LineLemmas
 pub mod ListLemmas

@@ -32,7 +32,8 @@ abbrev pub and_then : {A B : Type 0} → Result A Cause → (A → Result B Caus
 and_then (Ok value) next = next value
 and_then (Err cause) next = Err cause
 
--- the cause by a refusal of a line of a list or a map; want of memory is never meant there
+-- the cause by a refusal of a line of a list or a map; want of memory is never meant there, by
+-- `refusal_laws` of `frr_policy`
 abbrev pub cause_of : PolicyRefusal → Cause
 cause_of PolicyUnsupported = Unsupported
 cause_of PolicyOutOfPlace = OutOfPlace

@@ -9,3 +9,4 @@ pub mod Bgp
 pub mod Effects
 pub mod Reading
 pub mod FirstRefusal
+pub mod LineLaws

@@ -18,7 +18,7 @@ new_name old None = None
 new_name None (Some name) = Some name
 new_name (Some old) (Some name) = if same_text old name then None else Some name
 
--- AS numbers that an entry did not prepend before
+-- AS numbers that an entry did not prepend before; the test is whether two lists of numbers are the same
 abbrev pub new_asns : List ℕ → List ℕ → Option (List ℕ)
 new_asns old asns = if same_text old asns then None else Some asns
 

@@ -16,9 +16,9 @@ use Rattle.frr_reader.specs.Effects.{effect}
 
 -- a byte below 32 other than tab, or 127
 abbrev pub is_control : ℕ → Bool
-is_control b = nat_lt b 32 && not (b == 9) || (b == 127)
+is_control b = (nat_lt b 32 && not (b == 9)) || (b == 127)
 
--- a line has at most so many bytes; a file is read up to so many
+-- a line has at most so many bytes, and so has a file
 abbrev pub line_max : ℕ
 line_max = 512
 
@@ -30,7 +30,7 @@ abbrev pub begins_comment : List ℕ → Bool
 begins_comment [] = false
 begins_comment (b ∷ _) = (b == 33) || (b == 35)
 
--- the row's mode is the mode of the line, whatever the row does
+-- the mode in which the line is taken becomes the current one before the row's effect
 abbrev pub by_row : State → List (List ℕ) → Result FoundValue Cause → Result State Cause
 by_row s line (Ok found) = effect found.row line found.rest (record s { mode = found.mode })
 by_row s line (Err cause) = Err cause

@@ -1,5 +1,5 @@
 -- The line table: which line may stand in which mode, and the row that it is taken by.
-use Rattle.std.specs.Prelude.{ℕ, Bool, ◌==◌, ◌||◌, List, [], ◌∷◌, codes, Option, Some, None, Result, Ok, Err, option_map, is_some, if◌then◌else◌}
+use Rattle.std.specs.Prelude.{ℕ, Bool, ◌==◌, ◌||◌, List, [], ◌∷◌, ◌++◌, codes, Option, Some, None, Result, Ok, Err, option_map, is_some, if◌then◌else◌}
 use Rattle.std.specs.List.{list_any}
 use Rattle.net_types.specs.Order.{same_text}
 use Rattle.frr_policy.specs.Words.{words}
@@ -44,9 +44,12 @@ in_map = InMap ∷ []
 abbrev pub every : List Mode
 every = Top ∷ InInterface ∷ InBgp ∷ InOspf ∷ InMap ∷ InFamily ∷ []
 
--- the line table; in a head `_` is any word
-abbrev pub table : List FormValue
-table =
+-- The rows, by where they stand; in a head `_` is any word. No order of the rows matters: of two rows that may
+-- stand in one mode, none has a head that begins the other's.
+
+-- outside each block
+abbrev pub top_rows : List FormValue
+top_rows =
     form top (codes "hostname") HostName ∷
     form top (codes "interface") OpenInterface ∷
     form top (codes "router bgp") OpenBgp ∷
@@ -55,30 +58,6 @@ table =
     form top (codes "bgp community-list") CommunityListLine ∷
     form top (codes "ip community-list") CommunityListLine ∷
     form top (codes "route-map") MapLine ∷
-    form interface (codes "ip address") Address ∷
-    form interface (codes "ip ospf area") Area ∷
-    form interface (codes "ip ospf cost") Cost ∷
-    form interface (codes "shutdown") Shutdown ∷
-    form ospf (codes "network") OspfNetwork ∷
-    form bgp (codes "no bgp ebgp-requires-policy") (OfBgp NoPolicy) ∷
-    form bgp (codes "neighbor _ remote-as") (OfBgp RemoteAs) ∷
-    form bgp (codes "address-family") OpenFamily ∷
-    form bgp_and_family (codes "neighbor _ route-map") (OfBgp NeighborMap) ∷
-    form bgp_and_family (codes "network") (OfBgp BgpNetwork) ∷
-    form bgp_and_family (codes "redistribute connected") (OfBgp Connected) ∷
-    form bgp_and_family (codes "redistribute ospf") (OfBgp FromOspf) ∷
-    form in_map (codes "match ip address prefix-list") MapLine ∷
-    form in_map (codes "match community") MapLine ∷
-    form in_map (codes "set local-preference") MapLine ∷
-    form in_map (codes "set metric") MapLine ∷
-    form in_map (codes "set weight") MapLine ∷
-    form in_map (codes "set origin") MapLine ∷
-    form in_map (codes "set community") MapLine ∷
-    form in_map (codes "set comm-list") MapLine ∷
-    form in_map (codes "set as-path prepend") MapLine ∷
-    form every (codes "exit") Exit ∷
-    form every (codes "end") End ∷
-    form family (codes "exit-address-family") ExitFamily ∷
     form top (codes "frr version") NoEffect ∷
     form top (codes "frr defaults traditional") NoEffect ∷
     form top (codes "log") NoEffect ∷
@@ -90,17 +69,88 @@ table =
     form top (codes "no ipv6 forwarding") NoEffect ∷
     form top (codes "Building configuration...") NoEffect ∷
     form top (codes "Current configuration:") NoEffect ∷
+    []
+
+-- in the block of an interface
+abbrev pub interface_rows : List FormValue
+interface_rows =
+    form interface (codes "ip address") Address ∷
+    form interface (codes "ip ospf area") Area ∷
+    form interface (codes "ip ospf cost") Cost ∷
+    form interface (codes "shutdown") Shutdown ∷
     form interface (codes "description") NoEffect ∷
     form interface (codes "ip ospf network") NoEffect ∷
+    []
+
+-- in `router ospf`
+abbrev pub ospf_rows : List FormValue
+ospf_rows =
+    form ospf (codes "network") OspfNetwork ∷
     form ospf (codes "ospf router-id") NoEffect ∷
+    []
+
+-- in `router bgp` alone
+abbrev pub bgp_rows : List FormValue
+bgp_rows =
+    form bgp (codes "no bgp ebgp-requires-policy") (OfBgp NoPolicy) ∷
+    form bgp (codes "neighbor _ remote-as") (OfBgp RemoteAs) ∷
+    form bgp (codes "address-family") OpenFamily ∷
     form bgp (codes "bgp router-id") NoEffect ∷
     form bgp (codes "bgp log-neighbor-changes") NoEffect ∷
     form bgp (codes "no bgp network import-check") NoEffect ∷
+    []
+
+-- in `router bgp` and in its address family
+abbrev pub bgp_and_family_rows : List FormValue
+bgp_and_family_rows =
+    form bgp_and_family (codes "neighbor _ route-map") (OfBgp NeighborMap) ∷
+    form bgp_and_family (codes "network") (OfBgp BgpNetwork) ∷
+    form bgp_and_family (codes "redistribute connected") (OfBgp Connected) ∷
+    form bgp_and_family (codes "redistribute ospf") (OfBgp FromOspf) ∷
     form bgp_and_family (codes "neighbor _ activate") (OfBgp OfNeighbor) ∷
     form bgp_and_family (codes "neighbor _ description") (OfBgp OfNeighbor) ∷
     form bgp_and_family (codes "neighbor _ timers") (OfBgp OfNeighbor) ∷
     form bgp_and_family (codes "neighbor _ send-community") (OfBgp OfNeighbor) ∷
     []
+
+-- in the address family alone
+abbrev pub family_rows : List FormValue
+family_rows =
+    form family (codes "exit-address-family") ExitFamily ∷
+    []
+
+-- in the block of a map's entry
+abbrev pub map_rows : List FormValue
+map_rows =
+    form in_map (codes "match community") MapLine ∷
+    form in_map (codes "match ip address prefix-list") MapLine ∷
+    form in_map (codes "set local-preference") MapLine ∷
+    form in_map (codes "set metric") MapLine ∷
+    form in_map (codes "set weight") MapLine ∷
+    form in_map (codes "set origin") MapLine ∷
+    form in_map (codes "set community") MapLine ∷
+    form in_map (codes "set comm-list") MapLine ∷
+    form in_map (codes "set as-path prepend") MapLine ∷
+    []
+
+-- everywhere
+abbrev pub leaving_rows : List FormValue
+leaving_rows =
+    form every (codes "exit") Exit ∷
+    form every (codes "end") End ∷
+    []
+
+-- the line table
+abbrev pub table : List FormValue
+table =
+    top_rows ++
+    interface_rows ++
+    ospf_rows ++
+    bgp_rows ++
+    bgp_and_family_rows ++
+    family_rows ++
+    map_rows ++
+    leaving_rows
 
 -- the mode and those round it, the innermost first
 abbrev pub modes_from : Mode → List Mode

@@ -10,7 +10,7 @@ use Rattle.net_types.specs.Order.{same_text}
 abbrev pub host_of : List ℕ → Option (List ℕ)
 host_of word = if is_host word then Some word else None
 
--- NAME: the name of an interface
+-- NAME: the name of an interface or a map
 abbrev pub name_of : List ℕ → Option (List ℕ)
 name_of word = if is_name word then Some word else None
 

@@ -11,13 +11,13 @@ pub enum Cause {
     LineTooLong,
     /// It has the head of no row.
     Unsupported,
-    /// It has the head of a row, and of none that may stand there.
+    /// It has the head of a row, and of none that may stand there, or is of a neighbor before its `remote-as`.
     OutOfPlace,
     /// What follows the head does not fit the row.
     BadValue,
     /// What it sets is already set.
     Repeated,
-    /// It reaches past the greatest size of a file.
+    /// It adds the 65th entry of a list or a map, or reaches past the greatest size of a file.
     OutOfLimit,
 }
 
@@ -32,7 +32,7 @@ pub enum LineRefusal {
 
 /// What follows the head does not fit the row.
 pub const BAD_VALUE: LineRefusal = LineRefusal::Refused(Cause::BadValue);
-/// The line stands where its row may not.
+/// The line stands where its row may not, or before its neighbor's `remote-as`.
 pub const OUT_OF_PLACE: LineRefusal = LineRefusal::Refused(Cause::OutOfPlace);
 /// What the line sets is already set.
 pub const REPEATED: LineRefusal = LineRefusal::Refused(Cause::Repeated);

@@ -12,6 +12,7 @@
 mod bgp;
 mod causes;
 mod entries;
+mod laws;
 mod lines;
 mod modes;
 mod needs;
@@ -22,6 +23,7 @@ mod state;
 mod table;
 mod values;
 
+pub use laws::{entry_laws, line_laws};
 pub use reading::{read_router, reading_law};
 
 #[cfg(test)]

@@ -114,7 +114,7 @@ fn has_control(text: &[u8]) -> bool
 fn is_control(byte: u8) -> bool
     ensures { result ≡ is_control byte }
 {
-    byte < 32 && byte != b'\t' || byte == 127
+    (byte < 32 && byte != b'\t') || byte == 127
 }
 
 fn begins_comment(word: &[u8]) -> bool

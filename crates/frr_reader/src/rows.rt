@@ -151,126 +151,6 @@ static TABLE: [LineForm; 53] = [
         row: Row::MapLine,
     },
     LineForm {
-        modes: INTERFACE,
-        head: "ip address",
-        row: Row::Address,
-    },
-    LineForm {
-        modes: INTERFACE,
-        head: "ip ospf area",
-        row: Row::Area,
-    },
-    LineForm {
-        modes: INTERFACE,
-        head: "ip ospf cost",
-        row: Row::Cost,
-    },
-    LineForm {
-        modes: INTERFACE,
-        head: "shutdown",
-        row: Row::Shutdown,
-    },
-    LineForm {
-        modes: OSPF,
-        head: "network",
-        row: Row::OspfNetwork,
-    },
-    LineForm {
-        modes: BGP,
-        head: "no bgp ebgp-requires-policy",
-        row: Row::OfBgp(BgpRow::NoPolicy),
-    },
-    LineForm {
-        modes: BGP,
-        head: "neighbor _ remote-as",
-        row: Row::OfBgp(BgpRow::RemoteAs),
-    },
-    LineForm {
-        modes: BGP,
-        head: "address-family",
-        row: Row::OpenFamily,
-    },
-    LineForm {
-        modes: BGP_AND_FAMILY,
-        head: "neighbor _ route-map",
-        row: Row::OfBgp(BgpRow::NeighborMap),
-    },
-    LineForm {
-        modes: BGP_AND_FAMILY,
-        head: "network",
-        row: Row::OfBgp(BgpRow::BgpNetwork),
-    },
-    LineForm {
-        modes: BGP_AND_FAMILY,
-        head: "redistribute connected",
-        row: Row::OfBgp(BgpRow::Connected),
-    },
-    LineForm {
-        modes: BGP_AND_FAMILY,
-        head: "redistribute ospf",
-        row: Row::OfBgp(BgpRow::FromOspf),
-    },
-    LineForm {
-        modes: MAP,
-        head: "match ip address prefix-list",
-        row: Row::MapLine,
-    },
-    LineForm {
-        modes: MAP,
-        head: "match community",
-        row: Row::MapLine,
-    },
-    LineForm {
-        modes: MAP,
-        head: "set local-preference",
-        row: Row::MapLine,
-    },
-    LineForm {
-        modes: MAP,
-        head: "set metric",
-        row: Row::MapLine,
-    },
-    LineForm {
-        modes: MAP,
-        head: "set weight",
-        row: Row::MapLine,
-    },
-    LineForm {
-        modes: MAP,
-        head: "set origin",
-        row: Row::MapLine,
-    },
-    LineForm {
-        modes: MAP,
-        head: "set community",
-        row: Row::MapLine,
-    },
-    LineForm {
-        modes: MAP,
-        head: "set comm-list",
-        row: Row::MapLine,
-    },
-    LineForm {
-        modes: MAP,
-        head: "set as-path prepend",
-        row: Row::MapLine,
-    },
-    LineForm {
-        modes: EVERY,
-        head: "exit",
-        row: Row::Exit,
-    },
-    LineForm {
-        modes: EVERY,
-        head: "end",
-        row: Row::End,
-    },
-    LineForm {
-        modes: FAMILY,
-        head: "exit-address-family",
-        row: Row::ExitFamily,
-    },
-    LineForm {
         modes: TOP,
         head: "frr version",
         row: Row::NoEffect,
@@ -327,6 +207,26 @@ static TABLE: [LineForm; 53] = [
     },
     LineForm {
         modes: INTERFACE,
+        head: "ip address",
+        row: Row::Address,
+    },
+    LineForm {
+        modes: INTERFACE,
+        head: "ip ospf area",
+        row: Row::Area,
+    },
+    LineForm {
+        modes: INTERFACE,
+        head: "ip ospf cost",
+        row: Row::Cost,
+    },
+    LineForm {
+        modes: INTERFACE,
+        head: "shutdown",
+        row: Row::Shutdown,
+    },
+    LineForm {
+        modes: INTERFACE,
         head: "description",
         row: Row::NoEffect,
     },
@@ -337,8 +237,28 @@ static TABLE: [LineForm; 53] = [
     },
     LineForm {
         modes: OSPF,
+        head: "network",
+        row: Row::OspfNetwork,
+    },
+    LineForm {
+        modes: OSPF,
         head: "ospf router-id",
         row: Row::NoEffect,
+    },
+    LineForm {
+        modes: BGP,
+        head: "no bgp ebgp-requires-policy",
+        row: Row::OfBgp(BgpRow::NoPolicy),
+    },
+    LineForm {
+        modes: BGP,
+        head: "neighbor _ remote-as",
+        row: Row::OfBgp(BgpRow::RemoteAs),
+    },
+    LineForm {
+        modes: BGP,
+        head: "address-family",
+        row: Row::OpenFamily,
     },
     LineForm {
         modes: BGP,
@@ -354,6 +274,26 @@ static TABLE: [LineForm; 53] = [
         modes: BGP,
         head: "no bgp network import-check",
         row: Row::NoEffect,
+    },
+    LineForm {
+        modes: BGP_AND_FAMILY,
+        head: "neighbor _ route-map",
+        row: Row::OfBgp(BgpRow::NeighborMap),
+    },
+    LineForm {
+        modes: BGP_AND_FAMILY,
+        head: "network",
+        row: Row::OfBgp(BgpRow::BgpNetwork),
+    },
+    LineForm {
+        modes: BGP_AND_FAMILY,
+        head: "redistribute connected",
+        row: Row::OfBgp(BgpRow::Connected),
+    },
+    LineForm {
+        modes: BGP_AND_FAMILY,
+        head: "redistribute ospf",
+        row: Row::OfBgp(BgpRow::FromOspf),
     },
     LineForm {
         modes: BGP_AND_FAMILY,
@@ -374,6 +314,66 @@ static TABLE: [LineForm; 53] = [
         modes: BGP_AND_FAMILY,
         head: "neighbor _ send-community",
         row: Row::OfBgp(BgpRow::OfNeighbor),
+    },
+    LineForm {
+        modes: FAMILY,
+        head: "exit-address-family",
+        row: Row::ExitFamily,
+    },
+    LineForm {
+        modes: MAP,
+        head: "match community",
+        row: Row::MapLine,
+    },
+    LineForm {
+        modes: MAP,
+        head: "match ip address prefix-list",
+        row: Row::MapLine,
+    },
+    LineForm {
+        modes: MAP,
+        head: "set local-preference",
+        row: Row::MapLine,
+    },
+    LineForm {
+        modes: MAP,
+        head: "set metric",
+        row: Row::MapLine,
+    },
+    LineForm {
+        modes: MAP,
+        head: "set weight",
+        row: Row::MapLine,
+    },
+    LineForm {
+        modes: MAP,
+        head: "set origin",
+        row: Row::MapLine,
+    },
+    LineForm {
+        modes: MAP,
+        head: "set community",
+        row: Row::MapLine,
+    },
+    LineForm {
+        modes: MAP,
+        head: "set comm-list",
+        row: Row::MapLine,
+    },
+    LineForm {
+        modes: MAP,
+        head: "set as-path prepend",
+        row: Row::MapLine,
+    },
+    LineForm {
+        modes: EVERY,
+        head: "exit",
+        row: Row::Exit,
+    },
+    LineForm {
+        modes: EVERY,
+        head: "end",
+        row: Row::End,
     },
 ];
 

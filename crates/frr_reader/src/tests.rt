@@ -1,5 +1,6 @@
 //! Tables of named cases: what texts the definitions are meant to say.
 
+mod contents;
 mod running;
 mod tables;
 
@@ -99,11 +100,19 @@ fn long_file(rt: &HostRuntime, comments: usize, empty: usize) -> Result<String, 
     Ok(text)
 }
 
+// A line's first byte, its length, and its refusal; behind the first byte stand blanks and an `x`.
+static LENGTHS: [(&str, usize, Option<ReadRefusal>); 4] = [
+    ("!", 512, None),
+    ("!", 513, Some(ReadRefusal::LineTooLong(2))),
+    ("x", 513, Some(ReadRefusal::LineTooLong(2))),
+    ("\u{1}", 601, Some(ReadRefusal::NotText(2))),
+];
+
 #[test]
 fn limits(rt: HostRuntime) -> Result<(), Fail> {
-    for (len, refusal) in [(512, None), (513, Some(ReadRefusal::LineTooLong(2)))] {
-        let line = format!(in rt.alloc(); "hostname a\n!{:>len$}\r\n", "x", len = len - 1)?;
-        assert_eq!(rt; read(&rt, line.as_str()).err(), refusal, "{len}");
+    for (first, len, refusal) in LENGTHS {
+        let line = format!(in rt.alloc(); "hostname a\n{first}{:>len$}\r\n", "x", len = len - 1)?;
+        assert_eq!(rt; read(&rt, line.as_str()).err(), refusal, "{first}{len}");
     }
     for (empty, refused) in [(1, None), (2, Some(131_069))] {
         let text = long_file(&rt, 131_066, empty)?;
@@ -116,8 +125,48 @@ fn limits(rt: HostRuntime) -> Result<(), Fail> {
             ),
         }
     }
-    assert_eq!(rt; read(&rt, "!\n").err(), Some(ReadRefusal::NoHostname));
     Ok(())
+}
+
+// Behind 262,143 bytes of a file of 131,067 lines: the size is the last cause of a line, and counts a CR.
+static BEHIND_ALL_BUT_ONE: [(&str, Option<ReadRefusal>); 6] = [
+    ("!", None),
+    ("!!", Some(ReadRefusal::OutOfLimit(131_068))),
+    ("\r\n", Some(ReadRefusal::OutOfLimit(131_068))),
+    ("\nfoo\n", Some(ReadRefusal::Unsupported(131_069))),
+    ("\nhostname b\n", Some(ReadRefusal::Repeated(131_069))),
+    ("\ninterface e\n", Some(ReadRefusal::OutOfLimit(131_069))),
+];
+
+#[test]
+fn size_is_the_last_cause(rt: HostRuntime) -> Result<(), Fail> {
+    let all_but_one = long_file(&rt, 131_066, 0)?;
+    for (tail, refusal) in &BEHIND_ALL_BUT_ONE {
+        let text = format!(in rt.alloc(); "{all_but_one}{tail}")?;
+        assert_eq!(rt; read(&rt, text.as_str()).err(), *refusal, "{tail}");
+    }
+    Ok(())
+}
+
+// Whole files without a host's name.
+static NAMELESS: [(&str, ReadRefusal); 4] = [
+    ("!\n", ReadRefusal::NoHostname),
+    ("foo\n", ReadRefusal::Unsupported(1)),
+    (
+        "route-map M permit 1\n match community C\n",
+        ReadRefusal::NoHostname,
+    ),
+    (
+        "route-map M permit 1\n set as-path prepend 5\n",
+        ReadRefusal::NoHostname,
+    ),
+];
+
+#[test]
+fn files_without_a_name(rt: HostRuntime) {
+    for (text, refusal) in &NAMELESS {
+        assert_eq!(rt; read(&rt, text).err(), Some(*refusal), "{text}");
+    }
 }
 
 // A file of a map with entries of the numbers from 1 on.

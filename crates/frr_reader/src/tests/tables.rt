@@ -3,7 +3,7 @@
 use net_types::ReadRefusal;
 
 /// What may stand behind `hostname a`.
-pub static ACCEPTED: [(&str, &str); 27] = [
+pub static ACCEPTED: [(&str, &str); 29] = [
     ("a name", ""),
     (
         "an interface opened twice",
@@ -94,10 +94,15 @@ pub static ACCEPTED: [(&str, &str); 27] = [
         "Building configuration...\n\nCurrent configuration:\n!\nfrr version 8.4.4\nfrr defaults traditional\nno ip forwarding\nno ipv6 forwarding\nservice integrated-vtysh-config\n!\nrouter bgp 1\n !\n address-family ipv4 unicast\n exit-address-family\nexit\n!\nend\n",
     ),
     ("no LF at the end", "interface e\n shutdown"),
+    (
+        "bytes from 128 on",
+        "interface e\n description Z\u{fc}rich\n! \u{fc}\n",
+    ),
+    ("a comment's sign in a name", "interface e#!\n"),
 ];
 
 /// What may not stand behind `hostname a`, and the refusal.
-pub static REFUSED: [(&str, &str, ReadRefusal); 61] = [
+pub static REFUSED: [(&str, &str, ReadRefusal); 76] = [
     ("a second name", "hostname b\n", ReadRefusal::Repeated(2)),
     (
         "a name of two words",
@@ -201,6 +206,26 @@ pub static REFUSED: [(&str, &str, ReadRefusal); 61] = [
         ReadRefusal::OutOfPlace(3),
     ),
     (
+        "a row of another neighbor",
+        "router bgp 5\n neighbor 10.0.0.1 remote-as 6\n neighbor 10.0.0.2 activate\n",
+        ReadRefusal::OutOfPlace(4),
+    ),
+    (
+        "a map of another neighbor",
+        "router bgp 5\n neighbor 10.0.0.1 remote-as 6\n neighbor 10.0.0.2 route-map M\n",
+        ReadRefusal::OutOfPlace(4),
+    ),
+    (
+        "a neighbor with a leading zero",
+        "router bgp 5\n neighbor 10.0.0.1 remote-as 6\n neighbor 10.0.0.01 activate\n",
+        ReadRefusal::OutOfPlace(4),
+    ),
+    (
+        "a neighbor of no word",
+        "router bgp 5\n neighbor remote-as 6\n",
+        ReadRefusal::Unsupported(3),
+    ),
+    (
         "a map of no neighbor",
         "router bgp 5\n neighbor foo route-map\n",
         ReadRefusal::OutOfPlace(3),
@@ -244,6 +269,21 @@ pub static REFUSED: [(&str, &str, ReadRefusal); 61] = [
         "another address family",
         "router bgp 5\n address-family ipv6\n",
         ReadRefusal::BadValue(3),
+    ),
+    (
+        "a multicast family",
+        "router bgp 5\n address-family ipv4 multicast\n",
+        ReadRefusal::BadValue(3),
+    ),
+    (
+        "a family of no word",
+        "router bgp 5\n address-family\n",
+        ReadRefusal::BadValue(3),
+    ),
+    (
+        "a family left with a word",
+        "router bgp 5\n address-family ipv4\n exit-address-family now\n",
+        ReadRefusal::BadValue(4),
     ),
     (
         "an address family outside",
@@ -346,6 +386,34 @@ pub static REFUSED: [(&str, &str, ReadRefusal); 61] = [
         ReadRefusal::OutOfPlace(5),
     ),
     ("exit with a word", "exit now\n", ReadRefusal::BadValue(2)),
+    ("end with a word", "end now\n", ReadRefusal::BadValue(2)),
+    (
+        "other defaults",
+        "frr defaults datacenter\n",
+        ReadRefusal::Unsupported(2),
+    ),
+    ("half a word", "int e\n", ReadRefusal::Unsupported(2)),
+    (
+        "another row of a map, outside",
+        "match ip address 7\n",
+        ReadRefusal::Unsupported(2),
+    ),
+    (
+        "a byte above 126 in a name",
+        "interface \u{e9}\n",
+        ReadRefusal::BadValue(2),
+    ),
+    (
+        "a comment behind a word",
+        "interface e !\n",
+        ReadRefusal::BadValue(2),
+    ),
+    ("byte 127", "! \u{7f}\n", ReadRefusal::NotText(2)),
+    (
+        "a control byte before the head",
+        "\u{1}foo\n",
+        ReadRefusal::NotText(2),
+    ),
     (
         "a row in part",
         "frr defaults\n",
