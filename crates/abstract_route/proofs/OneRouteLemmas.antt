@@ -1,6 +1,6 @@
 -- What one route and its exact row say of each other, and the route that an inhabited row has.
-use Rattle.std.proofs.Common.{ℕ, ◌≡◌, ◌≢◌, ◌<◌, ◌≤◌, ◌==◌, ◌-◌, ◌+◌, ◌^◌, ◌&&◌, ◌||◌, ◌⊎◌, inl, inr, Bool, true, false, not, List, ◌++◌, length, length-append, replicate, arith, ap, sym, subst, ◌∙◌, refl, zero, suc}
-use Rattle.std.specs.List.{range_with_len}
+use Rattle.std.proofs.Common.{ℕ, ◌≡◌, ◌≢◌, ◌<◌, ◌≤◌, ◌==◌, ◌-◌, ◌+◌, ◌^◌, ◌&&◌, ◌||◌, ◌⊎◌, inl, inr, Bool, true, false, not, List, [], ◌++◌, length, length-append, replicate, arith, ap, sym, subst, ◌∙◌, refl, zero, suc, ◌↔◌, cond, ◌∷◌}
+use Rattle.std.specs.List.{filter, range_with_len}
 use Rattle.std.proofs.lemmas.Bool.Decides.{nat_tests}
 use Rattle.std.proofs.lemmas.List.{length-replicate}
 use Rattle.std.proofs.lemmas.List.Folds.{list_any-append}
@@ -19,7 +19,7 @@ use Rattle.abstract_route.specs.Rows.{IsInhabited, IsRow, carried_row}
 use Rattle.abstract_route.specs.Fits.{Fits, IsIn, exact_row, exported_med, on_path}
 use Rattle.abstract_route.specs.OneRoute.{HasRoom, IsLike, members}
 use Rattle.abstract_route.proofs.RowLemmas.{part_refl, part_anti}
-use Rattle.abstract_route.proofs.FitLemmas.{exact_is_least, has-routers_of, has_others}
+use Rattle.abstract_route.proofs.FitLemmas.{exact_is_least, fits_inhabited, has-routers_of, has_others}
 
 -- ---- no other route fits the exact row
 
@@ -170,7 +170,7 @@ or_right : (p q : Bool) → (p || q) ≡ true → p ≡ false → q ≡ true
 or_right true q e f = absurd (cc)
 or_right false q e f = e
 
-pub inhabited_has_route : (row : Row) → IsRow row → IsInhabited row → row.origin.low ≤ 2 → HasRoom row → (route : Route) × Fits route row
+inhabited_has_route : (row : Row) → IsRow row → IsInhabited row → row.origin.low ≤ 2 → HasRoom row → (route : Route) × Fits route row
 inhabited_has_route row words h low room =
     let p = has_path row words h room in let o = origin_at row.origin.low low in (
       record { weight = row.weight.low; preference = row.preference.low; path = p.0; origin = o.0; med = row.med.low; communities = row.has; source = Local },
@@ -186,3 +186,97 @@ inhabited_has_route row words h low room =
         must = p.1.must;
       },
     )
+
+-- ---- a row that a route fits has room for its path
+
+abbrev one : Bool → ℕ
+one true = 1
+one false = 0
+
+-- how many numbers of the list pass the test
+abbrev many : (ℕ → Bool) → List ℕ → ℕ
+many p [] = 0
+many p (x ∷ xs) = one (p x) + many p xs
+
+length_filter : (p : ℕ → Bool) (xs : List ℕ) → length (filter p xs) ≡ many p xs
+length_filter p [] = refl
+length_filter p (x ∷ xs) = step (p x) (filter p xs) (many p xs) (length_filter p xs) where
+  step : (b : Bool) (kept : List ℕ) (n : ℕ) → length kept ≡ n → length (cond b (x ∷ kept) kept) ≡ one b + n
+  step true kept n e = omega arith
+  step false kept n e = omega arith
+
+one_or : (p q : Bool) → one (p || q) ≤ one p + one q
+one_or true true = omega arith
+one_or true false = omega arith
+one_or false true = omega arith
+one_or false false = omega arith
+
+one_up : (p q : Bool) → (p ≡ true → q ≡ true) → one p ≤ one q
+one_up true true f = omega arith
+one_up true false f = absurd (let e = f refl in cc)
+one_up false true f = omega arith
+one_up false false f = omega arith
+
+count_or : (p q : ℕ → Bool) (xs : List ℕ) → many (λ x. p x || q x) xs ≤ many p xs + many q xs
+count_or p q [] = omega arith
+count_or p q (x ∷ xs) = let e = one_or (p x) (q x) in let f = count_or p q xs in omega arith
+
+count_up : (p q : ℕ → Bool) (xs : List ℕ) → ((x : ℕ) → p x ≡ true → q x ≡ true) → many p xs ≤ many q xs
+count_up p q [] h = omega arith
+count_up p q (x ∷ xs) h = let e = one_up (p x) (q x) (h x) in let f = count_up p q xs h in omega arith
+
+count_none : (y a n : ℕ) → y < a → many (λ x. x == y) (range_with_len a n) ≡ 0
+count_none y a zero h = refl
+count_none y a (suc n) h = let e = count_none y (a + 1) n (omega arith) in let f = off (a == y) (grind (arith, nat_tests)) in omega arith where
+  off : (b : Bool) → b ≡ false → one b ≡ 0
+  off b e = rw e refl
+
+count_once : (y a n : ℕ) → many (λ x. x == y) (range_with_len a n) ≤ 1
+count_once y a zero = omega arith
+count_once y a (suc n) = elim (cases a y) [
+  | inl same ↦ let e = count_none y (a + 1) n (omega arith) in let f = most (a == y) in omega arith
+  | inr other ↦ let e = count_once y (a + 1) n in let f = off (a == y) (grind (arith, nat_tests)) in omega arith
+] where
+  cases : (a y : ℕ) → (a ≡ y) ⊎ (a ≢ y)
+  cases a y = grind arith
+
+  most : (b : Bool) → one b ≤ 1
+  most true = omega arith
+  most false = omega arith
+
+  off : (b : Bool) → b ≡ false → one b ≡ 0
+  off b e = rw e refl
+
+count_on : (path : List ℕ) → many (λ x. on_path x path) (range_with_len 0 64) ≤ length path
+count_on [] = let e = none (range_with_len 0 64) in omega arith where
+  none : (xs : List ℕ) → many (λ x. on_path x []) xs ≡ 0
+  none [] = refl
+  none (x ∷ xs) = let e = none xs in omega arith
+count_on (y ∷ path) =
+    let e = count_or (λ x. x == y) (λ x. on_path x path) (range_with_len 0 64) in
+    let f = count_once y 0 64 in let g = count_on path in omega arith
+
+or_left : (p q : Bool) → p ≡ true → (p || q) ≡ true
+or_left p q e = rw e refl
+
+has_room : (route : Route) (row : Row) → Fits route row → HasRoom row
+has_room t row f = record {
+  few = (let e = length_filter (λ x. has row.must x) (range_with_len 0 64) in
+      let g = count_up (λ x. has row.must x) (λ x. on_path x t.path) (range_with_len 0 64) f.must in
+      let h = count_on t.path in let l = f.length in omega arith);
+  some = filled t.path f.length.0 f.may;
+} where
+  filled : (path : List ℕ) → row.length.low ≤ length path → ((x : ℕ) → on_path x path ≡ true → has row.may x ≡ true) →
+      (row.length.low ≡ 0) ⊎ ((x : ℕ) × (has row.may x ≡ true))
+  filled [] low may = inl (omega arith)
+  filled (y ∷ path) low may = inr (y, may y (or_left (y == y) (on_path y path) (grind (arith, nat_tests))))
+
+pub has_route : (row : Row) → IsRow row → ((route : Route) × Fits route row) ↔ (IsInhabited row × (row.origin.low ≤ 2) × HasRoom row)
+has_route row words = (
+  (λ r. (fits_inhabited r.0 row r.1, least_origin r.0.origin r.1.origin.0, has_room r.0 row r.1)),
+  (λ h. inhabited_has_route row words h.0 h.1 h.2),
+) where
+  least_origin : (o : Origin) → row.origin.low ≤ origin_rank o → row.origin.low ≤ 2
+  least_origin Igp h = omega arith
+  least_origin Egp h = omega arith
+  least_origin Incomplete h = omega arith

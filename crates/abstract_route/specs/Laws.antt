@@ -64,9 +64,9 @@ InhabitedIs = (row : Row) → (inhabited row ≡ true) ↔ IsInhabited row
 abbrev pub InhabitedUp : Type 0
 InhabitedUp = (a b : Row) → IsBelow a b → IsInhabited a → IsInhabited b
 
--- an inhabited row has a route, where there is an origin and a path in its ranges
-abbrev pub InhabitedHasRoute : Type 0
-InhabitedHasRoute = (row : Row) → IsRow row → IsInhabited row → row.origin.low ≤ 2 → HasRoom row → (route : Route) × Fits route row
+-- the rows that some route fits are the inhabited ones that begin at an origin and have room for a path
+abbrev pub HasRouteWhere : Type 0
+HasRouteWhere = (row : Row) → IsRow row → ((route : Route) × Fits route row) ↔ (IsInhabited row × (row.origin.low ≤ 2) × HasRoom row)
 
 -- what fits a row fits each row above
 abbrev pub FitsUp : Type 0

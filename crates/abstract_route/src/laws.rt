@@ -2,7 +2,7 @@
 //! does nothing, and `bottom_value` says what `BOTTOM` is.
 
 ghost use Rattle.std.specs.Prelude.{◌≡◌};
-ghost use Rattle.abstract_route.specs.Laws.{BelowIsReflexive, BelowIsTransitive, BelowIsAntisymmetric, JoinIsLeast, JoinIsRow, BottomIsRow, BottomIsBelow, BottomFitsNone, RankRises, RankIsStrict, RankIsBounded, InhabitedIs, InhabitedUp, InhabitedHasRoute, FitsUp, FitIsInhabited, ExactIsLeast, ExactIsRow, ExactFitsOne, LocalIsIn, LearnedIsIn, CarriedIsRow, CarriedIsExact, CarriedUp, CarriedFits, BeatsIsSound, BeatsIsExact, BeatsIsEach, BeatsOfRoutes, RouteIsOf};
+ghost use Rattle.abstract_route.specs.Laws.{BelowIsReflexive, BelowIsTransitive, BelowIsAntisymmetric, JoinIsLeast, JoinIsRow, BottomIsRow, BottomIsBelow, BottomFitsNone, RankRises, RankIsStrict, RankIsBounded, InhabitedIs, InhabitedUp, HasRouteWhere, FitsUp, FitIsInhabited, ExactIsLeast, ExactIsRow, ExactFitsOne, LocalIsIn, LearnedIsIn, CarriedIsRow, CarriedIsExact, CarriedUp, CarriedFits, BeatsIsSound, BeatsIsExact, BeatsIsEach, BeatsOfRoutes, RouteIsOf};
 ghost use Rattle.abstract_route.specs.Rows.{bottom};
 
 use crate::{BOTTOM, Row};
@@ -37,12 +37,12 @@ pub fn rank_laws()
     ensures bounded { RankIsBounded }
 {}
 
-/// The test for an inhabited row is exact, each row above an inhabited one is inhabited, and an inhabited row
-/// has a route, where there is an origin and a path in its ranges.
+/// The test for an inhabited row is exact, each row above an inhabited one is inhabited, and exactly those inhabited
+/// rows have a route that begin at an origin and have room for a path.
 pub fn inhabited_law()
     ensures test { InhabitedIs }
     ensures up { InhabitedUp }
-    ensures route { InhabitedHasRoute }
+    ensures route { HasRouteWhere }
 {}
 
 /// A route that fits a row fits each row above, and only inhabited rows have routes that fit.

@@ -5,10 +5,10 @@
 //! decide.
 //! Stands on: `net_types` alone. No call takes memory.
 //! Promises: the join is the least row above both; each test answers exactly its definition in `specs/`; and
-//! the laws, stated in `specs/Laws.antt`, say that rows are ordered, that rising chains of them end, that a
-//! route that fits a row fits each row above it, that an inhabited row has a route where an origin and a path
-//! are in its ranges, and that a candidate that beats another has better routes alone, and beats it wherever its
-//! worst route is better than the other's best. Not: that any router behaves so.
+//! the laws, stated in `specs/Laws.antt`, say that rows are ordered, that rising chains of them end, which rows
+//! have a route that fits, that it fits each row above, and that a candidate that beats another has better
+//! routes alone, and beats it wherever its worst route is better than the other's best. Not: that any router
+//! behaves so.
 #![tactic(auto)]
 
 mod candidates;

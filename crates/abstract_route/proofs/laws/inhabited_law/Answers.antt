@@ -1,5 +1,5 @@
 use Rattle.abstract_route.proofs.FitLemmas.{inhabited_is, inhabited_up}
-use Rattle.abstract_route.proofs.OneRouteLemmas.{inhabited_has_route}
+use Rattle.abstract_route.proofs.OneRouteLemmas.{has_route}
 use Rattle.abstract_route.proofs.laws.inhabited_law.Goals as goal
 
 pub returns-clause-test : goal.returns-clause-test
@@ -9,4 +9,4 @@ pub returns-clause-up : goal.returns-clause-up
 returns-clause-up c = inhabited_up
 
 pub returns-clause-route : goal.returns-clause-route
-returns-clause-route c = inhabited_has_route
+returns-clause-route c = has_route
