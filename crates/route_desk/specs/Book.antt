@@ -58,7 +58,7 @@ property_of fields =
 unfoldable pub tables_of : Members → Option Items
 tables_of top = if has_only (codes "property" ∷ []) top then tables_at (codes "property") top else None
 
--- the place of the first property that repeats the name of one before it
+-- two properties have one name
 abbrev pub is_same_name : Property → Property → Bool
 is_same_name a b = same_text a.name b.name
 
@@ -69,6 +69,7 @@ abbrev pub unless_repeated : Option ℕ → Seq Property → Result (Seq Propert
 unless_repeated (Some place) properties = Err (SameName place)
 unless_repeated None properties = if_few properties
 
+-- the properties, unless one repeats the name of one before it, whose place is told, or there are too many
 abbrev pub with_names : Seq Property → Result (Seq Property) FormRefusal
 with_names properties = unless_repeated (first_repeat is_same_name 1 [] properties) properties
 

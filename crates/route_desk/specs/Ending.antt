@@ -50,8 +50,9 @@ inputs_of base new properties =
     and_then (analysed_network (codes "new") new) (λ new_net.
     and_then (properties_of properties) (λ book. Ok (record { base = base_net; new = new_net; book = book }))))
 
--- the inputs of a check of two folders and a property file, or the line of the first step that refuses:
--- read base, read new, read the properties, base refused, new refused, properties refused
+-- the inputs of a check of two folders and a property file, or the line of the first step that refuses: read base, unless
+-- it has too many files; read new likewise; read the properties; base refused, or some router of it speaks BGP; new
+-- likewise; properties refused
 unfoldable pub check_inputs : Content → Seq ℕ → Seq ℕ → Seq ℕ → Result Inputs (Seq ℕ)
 check_inputs content base new properties =
     and_then (folder_of content (codes "base") base) (λ base_files.

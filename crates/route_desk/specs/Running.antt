@@ -1,5 +1,5 @@
 -- What the program does with its words: its text, and its status.
-use Rattle.std.specs.Prelude.{ℕ, ◌≡◌, ◌≤◌, ◌⊎◌, ◌++◌, Bool, List as Seq, codes, Option, Some, None, Result, Ok, Err, if◌then◌else◌}
+use Rattle.std.specs.Prelude.{ℕ, ◌≡◌, ◌≤◌, ◌<◌, ◌⊎◌, ◌++◌, Bool, List as Seq, length, take, codes, Option, Some, None, Result, Ok, Err, if◌then◌else◌}
 use Rattle.outside.specs.Content.{Content}
 use Rattle.outside.specs.Faults.{Rose}
 use Rattle.route_desk.specs.declared.answer.Answer.{Answer}
@@ -22,17 +22,19 @@ read_fault_line = codes "read fault\n"
 abbrev pub status_of : Bool → ℕ
 status_of good = if good then 0 else 1
 
--- the text and the status of a command by what its steps came to: its answer on its inputs, or the line of
--- the step that refused
+-- a command was answered on its inputs
 pub record IsAnswered (Is : Seq ℕ → Bool → Type 0) (text : Seq ℕ) (status : ℕ) : Type 0 where
   pub good : Bool
   pub answer : Is text good
   pub status_is : status ≡ status_of good
 
+-- a step of it refused with this line
 pub record IsRefused (line text : Seq ℕ) (status : ℕ) : Type 0 where
   pub text_is : text ≡ line
   pub status_is : status ≡ 2
 
+-- the text and the status of a command by what its steps came to: its answer on its inputs, or the line of
+-- the step that refused
 abbrev pub IsEnding : {A : Type 0} → (A → Seq ℕ → Bool → Type 0) → Result A (Seq ℕ) → Seq ℕ → ℕ → Type 0
 IsEnding Is (Ok inputs) text status = IsAnswered (Is inputs) text status
 IsEnding Is (Err line) text status = IsRefused line text status
@@ -73,14 +75,31 @@ Answers content (Some asked) before after status = HasAnswered content asked bef
 abbrev pub IsBehind : Seq ℕ → Option (Seq ℕ) → Option (Seq ℕ) → Type 0
 IsBehind text given given_now = (before : Seq ℕ) → given ≡ Some before → given_now ≡ Some (before ++ text)
 
--- a text was written and the status is this one, or the sink failed and the status is 5
+-- a beginning of a text, and not all of it, is behind what the sink held before
+abbrev pub IsPartBehind : Seq ℕ → Option (Seq ℕ) → Option (Seq ℕ) → Type 0
+IsPartBehind text given given_now = (before : Seq ℕ) → given ≡ Some before → (k : ℕ) × (k < length text) × (given_now ≡ Some (before ++ take k text))
+
+-- a whole text was written, no call of the sink failed, and the status is this one
+pub record IsWhole (wanted : ℕ) (text : Seq ℕ) (faults faults_now : ℕ) (given given_now : Option (Seq ℕ)) (status : ℕ) : Type 0 where
+  pub ends : status ≡ wanted
+  pub still : faults_now ≡ faults
+  pub told : IsBehind text given given_now
+
+-- a call of the sink failed behind a beginning of the text, and the status is 5
+pub record IsCut (text : Seq ℕ) (faults faults_now : ℕ) (given given_now : Option (Seq ℕ)) (status : ℕ) : Type 0 where
+  pub ends : status ≡ 5
+  pub kept : faults ≤ faults_now
+  pub rose : Rose faults faults_now
+  pub told : IsPartBehind text given given_now
+
 abbrev pub IsWritten : ℕ → Seq ℕ → ℕ → ℕ → Option (Seq ℕ) → Option (Seq ℕ) → ℕ → Type 0
 IsWritten wanted text faults faults_now given given_now status =
-    ((status ≡ wanted) × IsBehind text given given_now) ⊎ ((status ≡ 5) × Rose faults faults_now)
+    IsWhole wanted text faults faults_now given given_now status ⊎ IsCut text faults faults_now given given_now status
 
--- nothing was written, and the status says that there was no memory
-pub record IsSilent (given given_now : Option (Seq ℕ)) (status : ℕ) : Type 0 where
+-- nothing was written, no call of the sink failed, and the status says that there was no memory
+pub record IsSilent (faults faults_now : ℕ) (given given_now : Option (Seq ℕ)) (status : ℕ) : Type 0 where
   pub ends : status ≡ 8
+  pub still : faults_now ≡ faults
   pub told : given_now ≡ given
 
 -- how a command that came to this is ended
@@ -88,7 +107,22 @@ abbrev pub Finishes : Result Answer Stop → ℕ → ℕ → Option (Seq ℕ) �
 Finishes (Ok answer) faults faults_now given given_now status = IsWritten (status_of answer.good) answer.text faults faults_now given given_now status
 Finishes (Err (Refused line)) faults faults_now given given_now status = IsWritten 2 line faults faults_now given given_now status
 Finishes (Err ReadFault) faults faults_now given given_now status = IsWritten 4 read_fault_line faults faults_now given given_now status
-Finishes (Err NoMemory) faults faults_now given given_now status = IsSilent given given_now status
+Finishes (Err NoMemory) faults faults_now given given_now status = IsSilent faults faults_now given given_now status
+
+-- the text that a run means to write: the usage line; or the text of the command's answer over the content that is
+-- told; or that the files failed, where their count of faults rose
+abbrev pub IsAnswerText : Option Content → Asked → Seq ℕ → Type 0
+IsAnswerText content asked text = (c : Content) → content ≡ Some c → (status : ℕ) × IsAnswerOf c asked text status
+
+abbrev pub IsMeant : Option Content → Option Asked → ℕ → ℕ → Seq ℕ → Type 0
+IsMeant content None faults faults_now text = text ≡ usage_line
+IsMeant content (Some asked) faults faults_now text = IsAnswerText content asked text ⊎ ((text ≡ read_fault_line) × Rose faults faults_now)
+
+-- a beginning of that text was written
+pub record HasPart (content : Option Content) (asked : Option Asked) (faults faults_now : ℕ) (given given_now : Option (Seq ℕ)) : Type 0 where
+  pub text : Seq ℕ
+  pub meant : IsMeant content asked faults faults_now text
+  pub told : IsPartBehind text given given_now
 
 -- the words are a command whose steps refuse over this content
 abbrev pub Refuses : {A : Type 0} → Result A (Seq ℕ) → Type 0

@@ -31,7 +31,7 @@ proposed files text =
     and_then (labels_in net text) (λ labels. Ok (record { net = net; labels = labels })))
 
 -- the inputs of `stable` of a folder and a label file, or the line of the first step that refuses: read the folder,
--- read the labels, bundle refused, labels refused
+-- unless it has too many files; read the labels; bundle refused; labels refused
 unfoldable pub stable_inputs : Content → Seq ℕ → Seq ℕ → Result Proposal (Seq ℕ)
 stable_inputs content bundle labels =
     and_then (folder_of content (codes "bundle") bundle) (λ files.
@@ -56,11 +56,12 @@ pub record IsBroken (proposal : Proposal) (text : Seq ℕ) : Type 0 where
   pub first : BreaksFirst (problem_at proposal) proposal.labels.labels router
   pub text_is : text ≡ broken_line (host_of proposal.net router)
 
-pub record IsKept (proposal : Proposal) (text : Seq ℕ) : Type 0 where
+-- it breaks nowhere
+pub record IsHeld (proposal : Proposal) (text : Seq ℕ) : Type 0 where
   pub stable : IsStable (problem_at proposal) proposal.labels.labels
   pub text_is : text ≡ stable_line
 
 -- the answer: good where the labelling is stable
 abbrev pub IsStability : Proposal → Seq ℕ → Bool → Type 0
-IsStability proposal text true = IsKept proposal text
+IsStability proposal text true = IsHeld proposal text
 IsStability proposal text false = IsBroken proposal text

@@ -12,12 +12,13 @@ Gives value (Err (Refused line)) = value ≡ Err line
 Gives value (Err ReadFault) = Unit {0}
 Gives value (Err NoMemory) = Unit {0}
 
--- the count of the shelf's faults by the answer: it rose where the answer is that it failed
+-- the count of the shelf's faults by the answer: it rose where the answer is that the shelf failed, and else stands,
+-- so no call that failed is tried again or passed over
 abbrev pub HasCause : {A : Type 0} → ℕ → ℕ → Result A Stop → Type 0
-HasCause before now (Ok found) = before ≤ now
-HasCause before now (Err (Refused line)) = before ≤ now
-HasCause before now (Err ReadFault) = Rose before now
-HasCause before now (Err NoMemory) = before ≤ now
+HasCause before now (Ok found) = now ≡ before
+HasCause before now (Err (Refused line)) = now ≡ before
+HasCause before now (Err ReadFault) = (before ≤ now) × Rose before now
+HasCause before now (Err NoMemory) = now ≡ before
 
 -- the answer is not that the shelf failed
 abbrev pub IsCalm : {A : Type 0} → Result A Stop → Type 0

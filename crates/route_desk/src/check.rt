@@ -128,6 +128,7 @@ fn check_inputs<F: Shelf>(
     properties: &str,
 ) -> Result<Inputs, Stop>
     ensures cause { HasCause (F.faults shelf.old) (F.faults shelf.new) result }
+    ensures same { F.content shelf.new ≡ F.content shelf.old }
     ensures told { (c : Content) → F.content shelf.old ≡ Some c → Gives (check_inputs c base.now new.now properties.now) result }
     ensures asked { IfOk result (λ inputs. All IsAsked inputs.book) }
 {
@@ -169,6 +170,7 @@ pub fn check<F: Shelf>(
     properties: &str,
 ) -> Result<Answer, Stop>
     ensures cause { HasCause (F.faults shelf.old) (F.faults shelf.new) result }
+    ensures same { F.content shelf.new ≡ F.content shelf.old }
     ensures told { (c : Content) → F.content shelf.old ≡ Some c → Comes IsReport (check_inputs c base.now new.now properties.now) result }
 {
     let inputs = check_inputs(alloc, shelf, base, new, properties)?;

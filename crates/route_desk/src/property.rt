@@ -13,7 +13,7 @@ pub enum Kind {
     Waypoint(Text),
 }
 
-/// A property: what has to hold at a router for a prefix, with so many failed links.
+/// A property: what has to hold at a router for a prefix, with up to so many failed links.
 #[derive(Debug, Drop)]
 pub struct Property {
     /// Its name in the report.

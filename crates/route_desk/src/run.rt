@@ -5,7 +5,7 @@ ghost use Rattle.outside.specs.Content.{Content};
 ghost use Rattle.outside.specs.Faults.{Rose};
 ghost use Rattle.route_desk.specs.Asked.{asked};
 ghost use Rattle.route_desk.specs.Commands.{command_of};
-ghost use Rattle.route_desk.specs.Running.{Answers, Finishes, IsBehind, IsRefusedCommand, IsStatus, IsWritten, Performs, read_fault_line, status_of, usage_line};
+ghost use Rattle.route_desk.specs.Running.{Answers, Finishes, HasPart, IsBehind, IsRefusedCommand, IsStatus, IsWritten, Performs, read_fault_line, status_of, usage_line};
 ghost use Rattle.route_desk.specs.Stops.{HasCause};
 
 use crate::answer::Answer;
@@ -54,6 +54,7 @@ fn finish<O: Sink>(out: &mut O, performed: Result<Answer, Stop>) -> Status
 // Does what a command asks.
 fn perform<F: Shelf>(alloc: Global, shelf: &mut F, command: Command<'_>) -> Result<Answer, Stop>
     ensures cause { HasCause (F.faults shelf.old) (F.faults shelf.new) result }
+    ensures same { F.content shelf.new ≡ F.content shelf.old }
     ensures told { (c : Content) → F.content shelf.old ≡ Some c → Performs c (asked command.entry) result }
 {
     match command {
@@ -70,7 +71,8 @@ fn perform<F: Shelf>(alloc: Global, shelf: &mut F, command: Command<'_>) -> Resu
 /// exactly where they are `check` and three words, or `stable` and two, none of which is empty or begins with `-`.
 ///
 /// What is written, and the status, is that of `specs/Running.antt`. The status is 4 only where a call of
-/// the shelf failed, and 5 only where one of the sink did. At 8 nothing was written.
+/// the shelf failed, and 5 only where one of the sink did; no call failed where the status is neither. At 5 a
+/// beginning of the text was written, at 8 nothing.
 #[tactic(auto, unfolding(crate::specs::Running::usage_line))]
 pub fn run<F: Shelf, O: Sink>(alloc: Global, words: &[Text], shelf: &mut F, out: &mut O) -> Status
     ensures answer { (c : Content) (before : Seq ℕ) → F.content shelf.old ≡ Some c → O.given out.old ≡ Some before →
@@ -80,9 +82,14 @@ pub fn run<F: Shelf, O: Sink>(alloc: Global, words: &[Text], shelf: &mut F, out:
     ensures no_command { command_of words.now ≡ None → (result ≡ 3) ⊎ (result ≡ 5) }
     ensures usage_text { result ≡ 3 → IsBehind usage_line (O.given out.old) (O.given out.new) }
     ensures read_fault_text { result ≡ 4 → IsBehind read_fault_line (O.given out.old) (O.given out.new) }
+    ensures written_part { result ≡ 5 → HasPart (F.content shelf.old) (command_of words.now) (F.faults shelf.old) (F.faults shelf.new) (O.given out.old) (O.given out.new) }
     ensures read_fault { result ≡ 4 → Rose (F.faults shelf.old) (F.faults shelf.new) }
     ensures write_fault { result ≡ 5 → Rose (O.faults out.old) (O.faults out.new) }
     ensures silent { result ≡ 8 → O.given out.new ≡ O.given out.old }
+    ensures read_still { (result ≡ 4 → ⊥) → (result ≡ 5 → ⊥) → F.faults shelf.new ≡ F.faults shelf.old }
+    ensures write_still { (result ≡ 5 → ⊥) → O.faults out.new ≡ O.faults out.old }
+    ensures kept { (F.faults shelf.old ≤ F.faults shelf.new) × (O.faults out.old ≤ O.faults out.new) }
+    ensures same { F.content shelf.new ≡ F.content shelf.old }
     ensures known { IsStatus result }
 {
     match command_of(words) {

@@ -66,6 +66,7 @@ fn stable_inputs<F: Shelf>(
     labels: &str,
 ) -> Result<Proposal, Stop>
     ensures cause { HasCause (F.faults shelf.old) (F.faults shelf.new) result }
+    ensures same { F.content shelf.new ≡ F.content shelf.old }
     ensures told { (c : Content) → F.content shelf.old ≡ Some c → Gives (stable_inputs c bundle.now labels.now) result }
     ensures kept { IfOk result (λ proposal. AreLabels proposal.net proposal.labels) }
 {
@@ -157,6 +158,7 @@ pub fn stable<F: Shelf>(
     labels: &str,
 ) -> Result<Answer, Stop>
     ensures cause { HasCause (F.faults shelf.old) (F.faults shelf.new) result }
+    ensures same { F.content shelf.new ≡ F.content shelf.old }
     ensures told { (c : Content) → F.content shelf.old ≡ Some c → Comes IsStability (stable_inputs c bundle.now labels.now) result }
 {
     let proposal = stable_inputs(alloc, shelf, bundle, labels)?;

@@ -6,9 +6,9 @@ use std::marker::Model;
 
 /// An exit status, 0 to 8. Contracts see the number.
 ///
-/// 0: all verdicts of the new side are certified. 1: one is not. 2: a path is not there, or an input is
-/// refused. 3: the words are no command. 4: a call of the shelf failed. 5: a call of the sink failed.
-/// 8: there was no memory.
+/// 0: all verdicts of the new side are certified, or the labelling is stable. 1: one is not, or it is not.
+/// 2: a path is not there, or an input is refused. 3: the words are no command. 4: a call of the shelf failed.
+/// 5: a call of the sink failed. 8: there was no memory.
 #[derive(Clone, Copy, PartialEq, Eq, Debug)]
 pub struct Status(u8);
 

@@ -16,7 +16,7 @@ pub enum Barred {
 /// What is not implied where a property is not certified.
 #[derive(Clone, Copy, PartialEq, Eq, Debug)]
 pub enum Broken {
-    /// This router surely has no route.
+    /// This router has no route that is sure.
     NoSureRoute(u8),
     /// The router owns the prefix.
     IsOwner,

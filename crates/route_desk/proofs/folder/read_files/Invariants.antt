@@ -1,4 +1,4 @@
-use Rattle.std.proofs.Common.{◌≡◌, ◌≤◌, Some}
+use Rattle.std.proofs.Common.{◌≡◌, Some}
 use Rattle.std.specs.Vec.Iter.{into_iter_items}
 use Rattle.outside.specs.Content.{Content}
 use Rattle.route_desk.specs.Folder.{after_files, files_of}
@@ -6,6 +6,6 @@ use Rattle.route_desk.proofs.folder.read_files.Given as goal
 
 abbrev pub invariant-loop-name : goal.invariant-loop-name
 invariant-loop-name g l =
-    (g.F.Shelf.faults l.initial.shelf ≤ g.F.Shelf.faults l.shelf) ×
+    (g.F.Shelf.faults l.shelf ≡ g.F.Shelf.faults l.initial.shelf) ×
     (g.F.Shelf.content l.shelf ≡ g.F.Shelf.content l.initial.shelf) ×
     ((c : Content) → g.F.Shelf.content l.initial.shelf ≡ Some c → after_files l.files (files_of c l.folder (into_iter_items l.name-iterator)) ≡ files_of c l.folder l.fn.names.items)
