@@ -1,3 +1,4 @@
 pub mod DocumentLemmas
 pub mod TableLemmas
 pub mod Gathered
+pub mod PlaceLemmas

@@ -1,7 +1,7 @@
 -- The fields of a table of TOML: what stands at a key, where it is of the kind that is wanted.
 use Rattle.std.specs.Prelude.{ℕ, ◌&&◌, nat_le, Bool, true, List as Seq, Option, Some, None, option_and_then, ℤ, pos, negsuc, if◌then◌else◌}
 use Rattle.std.specs.List.{list_any}
-use Rattle.toml.specs.Data.{Items, Members, no_members, member, as_str, as_integer, as_array, as_table, get_member}
+use Rattle.toml.specs.Data.{Items, Members, no_members, member, as_str, as_integer, as_array, get_member}
 use Rattle.net_types.specs.PrefixValue.{PrefixValue}
 use Rattle.net_types.specs.Prefixes.{prefix_of}
 use Rattle.net_types.specs.Names.{is_host}
@@ -35,12 +35,9 @@ within low high (negsuc n) = None
 abbrev pub number_at : ℕ → ℕ → Seq ℕ → Members → Option ℕ
 number_at low high key fields = option_and_then (within low high) (integer_at key fields)
 
--- the items of the array at a key; the fields of the table there
+-- the items of the array at a key
 abbrev pub array_at : Seq ℕ → Members → Option Items
 array_at key fields = option_and_then as_array (get_member key fields)
-
-abbrev pub table_at : Seq ℕ → Members → Option Members
-table_at key fields = option_and_then as_table (get_member key fields)
 
 -- whether the key is one of these
 abbrev pub is_one_of : Seq (Seq ℕ) → Seq ℕ → Bool

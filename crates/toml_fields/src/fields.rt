@@ -3,7 +3,7 @@
 ghost use Rattle.std.specs.Prelude.{◌≡◌, ◌≤◌, map, option_map, IfSome};
 ghost use Rattle.toml.specs.Data.{get_member};
 ghost use Rattle.toml.specs.View.{table_view, array_view, view};
-ghost use Rattle.toml_fields.specs.Fields.{text_at, host_at, prefix_at, integer_at, number_at, array_at, table_at, is_one_of, has_only, within};
+ghost use Rattle.toml_fields.specs.Fields.{text_at, host_at, prefix_at, integer_at, number_at, array_at, is_one_of, has_only, within};
 
 use net_types::{Prefix, is_host};
 use toml::value::Array;
@@ -46,8 +46,8 @@ pub fn prefix_at(table: &Table, key: &str) -> Option<Prefix>
     }
 }
 
-/// The integer at a key.
-pub fn integer_at(table: &Table, key: &str) -> Option<i64>
+// The integer at a key.
+fn integer_at(table: &Table, key: &str) -> Option<i64>
     ensures { result ≡ integer_at key.now (table_view table.now) }
 {
     match value_at(table, key) {
@@ -89,16 +89,6 @@ pub fn array_at<'a>(table: &'a Table, key: &str) -> Option<&'a Array>
 {
     match value_at(table, key) {
         Some(value) => value.as_array(),
-        None => None,
-    }
-}
-
-/// The table at a key.
-pub fn table_at<'a>(table: &'a Table, key: &str) -> Option<&'a Table>
-    ensures { option_map (λ found. table_view found.now) result ≡ table_at key.now (table_view table.now) }
-{
-    match value_at(table, key) {
-        Some(value) => value.as_table(),
         None => None,
     }
 }

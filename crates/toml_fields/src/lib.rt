@@ -14,8 +14,5 @@ mod tables;
 mod tests;
 
 pub use documents::document;
-pub use fields::{
-    array_at, has_only, host_at, integer_at, number_at, prefix_at, table_at, text_at, value_at,
-    within,
-};
+pub use fields::{array_at, has_only, host_at, number_at, prefix_at, text_at, value_at, within};
 pub use tables::tables_at;
