@@ -27,7 +27,7 @@ use Rattle.label_file.specs.declared.contents.Labels.{Labels}
 use Rattle.label_file.specs.Facts.{IsSource, IsLabel, AreLabels}
 use Rattle.label_file.specs.File.{ascends, if_failure_set, if_link, link_in, down_of, down_in, down_at, held, labelling, unless_repeated, with_labels, labels_of_parts, top_keys, labels_of_top, labels_of}
 use Rattle.label_file.specs.Sources.{is_to, directions, arc_to, learned_at, source_of, source_at}
-use Rattle.label_file.specs.Tables.{keys_of, route_of, route_at, if_known, label_at, label_of, is_same_router}
+use Rattle.label_file.specs.Tables.{keys_of, route_of, route_at, if_known, label_of_fields, label_of, is_same_router}
 use Rattle.label_file.specs.Values.{router_at, word_at, path_at, origin_at, communities_at}
 use Rattle.label_file.proofs.LinkLemmas.{failure_set, first_holds, second_holds}
 use Rattle.label_file.proofs.OptionLemmas.{IfSome-test, IfSome-else, IfSome-and_then, IfSome-behind, IfSome-map, IfSome-at, IfSome-find, IfSome-found, IfSome-each_of, IfOk-rows_from}
@@ -83,11 +83,11 @@ IsOf net label = IsLabel net label.router label.route
 
 IfSome-label_of : (net : NetValue) → length net.communities ≤ 64 → (fields : Members) → IfSome (label_of net fields) (IsOf net)
 unfolding label_of
-IfSome-label_of net few fields = IfSome-behind (IsOf net) (label_at net fields) (router_at net (codes "router") fields) at_router where
+IfSome-label_of net few fields = IfSome-behind (IsOf net) (label_of_fields net fields) (router_at net (codes "router") fields) at_router where
   known : (router : ℕ) (route : Route) → IsLabel net router route → IfSome (if_known router fields route) (IsOf net)
   known router route h = IfSome-test (IsOf net) (has_only (keys_of route.source) fields) (record { router = router; route = route }) (λ e. h)
 
-  at_router : (router : ℕ) → IfSome (label_at net fields router) (IsOf net)
+  at_router : (router : ℕ) → IfSome (label_of_fields net fields router) (IsOf net)
   at_router router = IfSome-and_then (IsLabel net router) (IsOf net) (if_known router fields) (route_at net router fields) (IfSome-route_at net router fields few) (known router)
 
 -- what a router holds

@@ -36,11 +36,11 @@ route_at net router fields =
 abbrev pub if_known : ℕ → Members → Route → Option Label
 if_known router fields route = if has_only (keys_of route.source) fields then Some (record { router = router; route = route }) else None
 
-abbrev pub label_at : NetValue → Members → ℕ → Option Label
-label_at net fields router = option_and_then (if_known router fields) (route_at net router fields)
+abbrev pub label_of_fields : NetValue → Members → ℕ → Option Label
+label_of_fields net fields router = option_and_then (if_known router fields) (route_at net router fields)
 
 unfoldable pub label_of : NetValue → Members → Option Label
-label_of net fields = option_and_then (label_at net fields) (router_at net (codes "router") fields)
+label_of net fields = option_and_then (label_of_fields net fields) (router_at net (codes "router") fields)
 
 -- whether the labels are of one router
 abbrev pub is_same_router : Label → Label → Bool

@@ -10,6 +10,7 @@
 
 mod communities;
 mod contents;
+mod laws;
 mod links;
 mod reading;
 mod sources;
@@ -19,4 +20,5 @@ mod tests;
 mod values;
 
 pub use contents::Labels;
+pub use laws::law_of_tables;
 pub use reading::read_labels;

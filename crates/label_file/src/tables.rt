@@ -7,7 +7,7 @@ ghost use Rattle.toml.specs.View.{table_view, items_view, view};
 ghost use Rattle.toml_fields.specs.Fields.{has_only};
 ghost use Rattle.toml_fields.specs.Tables.{rows_from, first_repeat};
 ghost use Rattle.toml_fields.specs.Document.{Answers};
-ghost use Rattle.label_file.specs.Tables.{keys_of, route_at, if_known, label_at, label_of, is_same_router};
+ghost use Rattle.label_file.specs.Tables.{keys_of, route_at, if_known, label_of_fields, label_of, is_same_router};
 
 use crate::contents::Label;
 use crate::sources::source_at;
@@ -100,8 +100,8 @@ fn if_known(router: u8, table: &Table, route: Route) -> Option<Label>
     }
 }
 
-fn label_at(alloc: Global, net: &Net, table: &Table, router: u8) -> Result<Option<Label>, NoMemory>
-    ensures { IfOk result (λ label. label ≡ label_at net.now (table_view table.now) router) }
+fn label_of_fields(alloc: Global, net: &Net, table: &Table, router: u8) -> Result<Option<Label>, NoMemory>
+    ensures { IfOk result (λ label. label ≡ label_of_fields net.now (table_view table.now) router) }
 {
     match route_at(alloc, net, router, table)? {
         Some(route) => Ok(if_known(router, table, route)),
@@ -115,7 +115,7 @@ fn label_of(alloc: Global, net: &Net, table: &Table) -> Result<Option<Label>, No
     ensures { IfOk result (λ label. label ≡ label_of net.now (table_view table.now)) }
 {
     match router_at(net, table, "router") {
-        Some(router) => label_at(alloc, net, table, router),
+        Some(router) => label_of_fields(alloc, net, table, router),
         None => Ok(None),
     }
 }
