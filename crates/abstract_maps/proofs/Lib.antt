@@ -13,3 +13,4 @@ pub mod FreeLemmas
 pub mod KnownLemmas
 pub mod PreferringLemmas
 pub mod OneRouterLemmas
+pub mod ThreeRouterLemmas
