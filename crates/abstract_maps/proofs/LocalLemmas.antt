@@ -66,7 +66,7 @@ entries_long count router u prefix (e ∷ es) row all =
       step Yes a b p q = p
       step Maybe a b p q = omega arith
 
-map_long : (net : NetValue) (u : ℕ) (policy : Policy) (prefix : PrefixValue) (row : Row) → IsNet net → u < length net.routers → IsInhabited row → (abstract_map net u policy prefix row).length.high ≤ row.length.high + 10
+pub map_long : (net : NetValue) (u : ℕ) (policy : Policy) (prefix : PrefixValue) (row : Row) → IsNet net → u < length net.routers → IsInhabited row → (abstract_map net u policy prefix row).length.high ≤ row.length.high + 10
 map_long net u policy prefix row valid inside i =
     let at = router_at net u valid inside in
     let e = map_in net u policy prefix row at i in rw e (go policy at) where

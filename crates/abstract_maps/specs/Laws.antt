@@ -1,5 +1,5 @@
 -- What is true of the abstract maps and transfers of every network.
-use Rattle.std.specs.Prelude.{ℕ, ◌≡◌, ◌<◌, ◌≤◌, ◌^◌, ◌⊎◌, true, false, length, Some, Option, IfSome}
+use Rattle.std.specs.Prelude.{ℕ, ◌≡◌, ◌<◌, ◌≤◌, ◌+◌, ◌^◌, ◌⊎◌, true, false, length, Some, Option, IfSome}
 use Rattle.abstract_route.specs.declared.rows.Row.{Row}
 use Rattle.abstract_route.specs.Fits.{Fits, IsExact, IsIn, on_path}
 use Rattle.abstract_route.specs.Rows.{IsBelow, IsInhabited, IsRow, bottom}
@@ -34,6 +34,12 @@ abbrev pub MapGrows : Type 0
 MapGrows =
     (net : NetValue) (u : ℕ) (policy : Policy) (prefix : PrefixValue) (a b : Row) → IsNet net → u < length net.routers →
     IsInhabited a → IsBelow a b → IsBelow (abstract_map net u policy prefix a) (abstract_map net u policy prefix b)
+
+-- a policy puts at most 10 routers in front of a row's paths
+abbrev pub MapLengthens : Type 0
+MapLengthens =
+    (net : NetValue) (u : ℕ) (policy : Policy) (prefix : PrefixValue) (row : Row) → IsNet net → u < length net.routers →
+    IsInhabited row → (abstract_map net u policy prefix row).length.high ≤ row.length.high + 10
 
 -- a policy that is sure of a row gives something of each route that fits it
 abbrev pub SureGives : Type 0

@@ -1,16 +1,17 @@
 //! What is true of the abstract maps and transfers of every network: each law is the contract of a function that
 //! does nothing.
 
-ghost use Rattle.abstract_maps.specs.Laws.{ClosedIsBottom, FreeIsNoneOrInhabited, FreeIsTransfer, GivesGrows, GivesIsNoneOrInhabited, GivesIsRow, GivesIsShort, GivesIsSound, LocalIsExact, LocalIsRow, LocalIsShort, MapGrows, MapIsNoneOrInhabited, MapIsSound, OpenGrows, PassesIsOpen, PassingIsSure, SureGives, TransferGrows, TransferIsCut, TransferIsNoneOrInhabited, TransferIsRow, TransferIsShort, TransferIsSound};
+ghost use Rattle.abstract_maps.specs.Laws.{ClosedIsBottom, FreeIsNoneOrInhabited, FreeIsTransfer, GivesGrows, GivesIsNoneOrInhabited, GivesIsRow, GivesIsShort, GivesIsSound, LocalIsExact, LocalIsRow, LocalIsShort, MapGrows, MapIsNoneOrInhabited, MapIsSound, MapLengthens, OpenGrows, PassesIsOpen, PassingIsSure, SureGives, TransferGrows, TransferIsCut, TransferIsNoneOrInhabited, TransferIsRow, TransferIsShort, TransferIsSound};
 ghost use Rattle.abstract_maps.specs.OneRoute.{MapIsExact, OpenIsExact, OpenIsPasses, PassesIsExact, SureIsExact, TransferIsExact};
 
 /// What a policy gives of a route of a row is a route of what it makes of the row, and a policy that is sure of a
-/// row gives something of each of its routes.
+/// row gives something of each of its routes. Paths get at most 10 entries longer.
 pub fn map_laws()
     ensures sound { MapIsSound }
     ensures grows { MapGrows }
     ensures either { MapIsNoneOrInhabited }
     ensures sure { SureGives }
+    ensures long { MapLengthens }
 {}
 
 /// What an arc carries of a route of a row is a route of what it makes of the row, if its path has at most 21 entries

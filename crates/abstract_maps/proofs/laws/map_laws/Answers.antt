@@ -1,3 +1,4 @@
+use Rattle.abstract_maps.proofs.LocalLemmas.{map_long}
 use Rattle.abstract_maps.proofs.MapLemmas.{map_sound, map_grows, map_either, sure_gives}
 use Rattle.abstract_maps.proofs.laws.map_laws.Goals as goal
 
@@ -12,3 +13,6 @@ returns-clause-either c = map_either
 
 pub returns-clause-sure : goal.returns-clause-sure
 returns-clause-sure c = sure_gives
+
+pub returns-clause-long : goal.returns-clause-long
+returns-clause-long c = map_long
