@@ -1,6 +1,10 @@
 -- The values in front of some words, one after another.
 use Rattle.std.proofs.Common.{ℕ, ◌≡◌, ◌++◌, List, [], ◌∷◌, Option, Some, None, option_map, append_assoc, append-nil, ap, sym, ◌∙◌, refl}
-use Rattle.frr_policy.specs.Grammar.{first, leading, value_before, values_before}
+use Rattle.frr_policy.specs.Grammar.{first, leading, value_before}
+
+-- the values that are taken, before those that are left, and the words behind them all
+abbrev pub values_before : List ℕ → List ℕ × List (List ℕ) → List ℕ × List (List ℕ)
+values_before done behind = (done ++ behind.0, behind.1)
 
 some_same : {A : Type 0} (x y : A) → Some x ≡ Some y → x ≡ y
 some_same x y e = cc

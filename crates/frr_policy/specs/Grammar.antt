@@ -1,5 +1,5 @@
 -- How the words of a line are read: a value from the front, then the words behind it.
-use Rattle.std.specs.Prelude.{ℕ, ◌≡◌, List, [], ◌∷◌, ◌++◌, Option, Some, None, option_map, if◌then◌else◌}
+use Rattle.std.specs.Prelude.{ℕ, ◌≡◌, List, [], ◌∷◌, Option, Some, None, option_map, if◌then◌else◌}
 use Rattle.net_types.specs.Order.{same_text}
 
 -- the first word, read as a value
@@ -39,10 +39,6 @@ value_before words (Some a) behind = (a ∷ behind.0, behind.1)
 abbrev pub leading : (List ℕ → Option ℕ) → List (List ℕ) → List ℕ × List (List ℕ)
 leading value [] = ([], [])
 leading value (word ∷ more) = value_before (word ∷ more) (value word) (leading value more)
-
--- values before those
-abbrev pub values_before : List ℕ → List ℕ × List (List ℕ) → List ℕ × List (List ℕ)
-values_before done behind = (done ++ behind.0, behind.1)
 
 -- one or more values with no word behind them
 abbrev pub some_alone : List ℕ × List (List ℕ) → Option (List ℕ)

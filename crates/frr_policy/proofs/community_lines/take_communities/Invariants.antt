@@ -1,6 +1,7 @@
 use Rattle.std.proofs.Common.{◌≡◌, ◌^◌, ◌<◌, All, length}
 use Rattle.net_types.specs.Communities.{community_of}
-use Rattle.frr_policy.specs.Grammar.{leading, values_before}
+use Rattle.frr_policy.specs.Grammar.{leading}
+use Rattle.frr_policy.proofs.GrammarLemmas.{values_before}
 use Rattle.frr_policy.proofs.community_lines.take_communities.Given as goal
 
 abbrev pub invariant-loop-value : goal.invariant-loop-value

@@ -1,6 +1,7 @@
 use Rattle.std.proofs.Common.{◌≡◌, length}
 use Rattle.frr_policy.specs.Values.{positive_of}
-use Rattle.frr_policy.specs.Grammar.{leading, values_before}
+use Rattle.frr_policy.specs.Grammar.{leading}
+use Rattle.frr_policy.proofs.GrammarLemmas.{values_before}
 use Rattle.frr_policy.proofs.map_rows.take_asns.Given as goal
 
 abbrev pub invariant-loop-asn : goal.invariant-loop-asn
