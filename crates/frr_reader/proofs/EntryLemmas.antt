@@ -182,7 +182,7 @@ set-there [] k x old e = cc
 set-there (y ∷ ys) zero x old e = refl
 set-there (y ∷ ys) (suc k) x old e = set-there ys k x old e
 
-slice_get-behind : {A : Type 0} (n m : ℕ) → m ≡ suc n → (y : A) (ys : List A) → slice_get (y ∷ ys) m ≡ slice_get ys n
+pub slice_get-behind : {A : Type 0} (n m : ℕ) → m ≡ suc n → (y : A) (ys : List A) → slice_get (y ∷ ys) m ≡ slice_get ys n
 slice_get-behind n m e y ys = rw e refl
 
 -- what stands at the place of the first that passes

@@ -1,16 +1,18 @@
 -- The row by which a line is taken: the first in the innermost mode; and the heads of the lines of maps.
-use Rattle.std.proofs.Common.{ℕ, ◌≡◌, ◌⊎◌, ◌++◌, cond, inl, inr, ◌||◌, Bool, true, false, List, [], ◌∷◌, codes, map, filter, All, Contains, Option, Some, None, Result, Ok, Err, option_map, is_some, if◌then◌else◌, refl, sym, subst, ◌∙◌, ap}
+use Rattle.std.proofs.Common.{ℕ, ◌≡◌, ◌⊎◌, ◌++◌, cond, inl, inr, ◌||◌, Bool, true, false, List, [], ◌∷◌, codes, map, filter, All, Contains, Option, Some, None, Result, Ok, Err, option_map, is_some, if◌then◌else◌, refl, sym, subst, ◌∙◌, ap, ◌==◌}
 use Rattle.std.specs.List.{list_any}
 use Rattle.std.proofs.lemmas.List.Elements.{All-nil, All-cons, All-head, All-tail, All-contains, Contains-append_right, Contains-append_left, Contains-push}
 use Rattle.net_types.specs.Order.{same_text}
 use Rattle.frr_policy.specs.Words.{words}
 use Rattle.frr_policy.specs.MapLines.{LineRow, map_table, behind as map_behind}
-use Rattle.frr_policy.specs.Laws.{HasNoHead}
+use Rattle.frr_policy.specs.Laws.{HasNoHead, begins_head}
 use Rattle.frr_reader.specs.declared.causes.Cause.{Cause}
 use Rattle.frr_reader.specs.declared.causes.Cause.TheVariants.{Unsupported, OutOfPlace}
 use Rattle.frr_reader.specs.declared.modes.Mode.{Mode}
+use Rattle.frr_reader.specs.declared.modes.Mode.TheVariants.{Top, InInterface, InBgp, InOspf, InMap, InFamily}
 use Rattle.frr_reader.specs.declared.rows.Row.{Row}
-use Rattle.frr_reader.specs.Table.{FormValue, FoundValue, table, stands_in, behind, by_form, or_else, first_given, found_in, has_head, is_known, or_cause, found_from, modes_from}
+use Rattle.frr_reader.specs.declared.rows.Row.TheVariants.{HostName, OpenInterface, OpenBgp, OpenOspf, PrefixListLine, CommunityListLine, MapLine, Address, Area, Cost, Shutdown, OspfNetwork, OfBgp, OpenFamily, Exit, End, ExitFamily, NoEffect}
+use Rattle.frr_reader.specs.Table.{FormValue, FoundValue, table, stands_in, behind, by_form, or_else, first_given, found_in, has_head, is_known, or_cause, found_from, modes_from, rank, interface, bgp, bgp_and_family, family, in_map, top_rows, interface_rows, ospf_rows, bgp_rows, bgp_and_family_rows, family_rows, map_rows, leaving_rows}
 use Rattle.frr_reader.specs.LineLaws.{TakesIn, NoneTakesIn, IsInnermost, is_map_line, map_heads}
 
 -- the first item for which there is a value
@@ -223,3 +225,139 @@ map_line_headed now line found i m h =
     let n = All-contains P table i.form (no_map_form table line heads) i.among (subst (λ r. is_map_line r ≡ true) (sym i.row) m) in
     let z : None ≡ Some found.rest = sym n ∙ i.head in
     cc
+
+-- what is out of place, and what is found
+
+pub found-out_of_place : (now : Mode) (line : List (List ℕ)) → found_from now line ≡ Err OutOfPlace → (is_known line ≡ true) × All (NoneTakesIn line) (modes_from now)
+unfolding found_from
+found-out_of_place now line e = go (first_given (found_in line) (modes_from now)) refl (is_known line) refl e where
+  unknown : is_known line ≡ false → or_cause line None ≡ Err Unsupported
+  unknown f = rw f refl
+
+  go : (o : Option FoundValue) → first_given (found_in line) (modes_from now) ≡ o → (b : Bool) → is_known line ≡ b → or_cause line o ≡ Err OutOfPlace → (is_known line ≡ true) × All (NoneTakesIn line) (modes_from now)
+  go (Some x) f b g h = absurd (cc)
+  go None f true g h = (g, λ k d l. found_in-none line _ (none_given (found_in line) (modes_from now) f k d l))
+  go None f false g h = absurd (let k = sym (unknown g) ∙ h in cc)
+
+pub found_known : (now : Mode) (line : List (List ℕ)) (found : FoundValue) → found_from now line ≡ Ok found → is_known line ≡ true
+found_known now line found e = go (is_known line) refl where
+  i : IsInnermost now line found
+  i = taken_innermost now line found e
+
+  go : (b : Bool) → is_known line ≡ b → b ≡ true
+  go true f = refl
+  go false f = absurd (let h = All-contains (λ (x : FormValue). has_head line x ≡ false) table i.form (unknown_all line f) i.among in let k : has_head line i.form ≡ true = ap is_some i.head in cc)
+
+-- a line with the head `route-map`
+pub begun_head : (name : List ℕ) (line rest : List (List ℕ)) → name ≡ codes "route-map" → behind (words name) line ≡ Some rest → map_behind begins_head line ≡ None → ⊥
+unfolding words
+begun_head name line rest e f g =
+    let h : behind begins_head line ≡ Some rest = subst (λ n. behind (words n) line ≡ Some rest) e f in
+    let k = sym g ∙ (sym (plain_behind begins_head line refl) ∙ h) in
+    cc
+
+-- the modes of the rows that need an open block
+abbrev pub StandsWhere : List ℕ → Row → Mode → Type 0
+StandsWhere head HostName m = Unit {0}
+StandsWhere head OpenInterface m = Unit {0}
+StandsWhere head OpenBgp m = Unit {0}
+StandsWhere head OpenOspf m = Unit {0}
+StandsWhere head PrefixListLine m = Unit {0}
+StandsWhere head CommunityListLine m = Unit {0}
+StandsWhere head MapLine m = (m ≡ InMap) ⊎ (head ≡ codes "route-map")
+StandsWhere head Address m = m ≡ InInterface
+StandsWhere head Area m = m ≡ InInterface
+StandsWhere head Cost m = m ≡ InInterface
+StandsWhere head Shutdown m = m ≡ InInterface
+StandsWhere head OspfNetwork m = Unit {0}
+StandsWhere head (OfBgp row) m = (m ≡ InBgp) ⊎ (m ≡ InFamily)
+StandsWhere head OpenFamily m = (m ≡ InBgp) ⊎ (m ≡ InFamily)
+StandsWhere head Exit m = Unit {0}
+StandsWhere head End m = Unit {0}
+StandsWhere head ExitFamily m = (m ≡ InBgp) ⊎ (m ≡ InFamily)
+StandsWhere head NoEffect m = Unit {0}
+
+abbrev FormStands : FormValue → Type 0
+FormStands f = (m : Mode) → stands_in f m ≡ true → StandsWhere f.head f.row m
+
+abbrev EachStands : List FormValue → Type 0
+EachStands [] = Unit {0}
+EachStands (f ∷ fs) = FormStands f × EachStands fs
+
+each_all : (fs : List FormValue) → EachStands fs → All FormStands fs
+each_all [] h = All-nil FormStands
+each_all (f ∷ fs) h = All-cons FormStands f fs h.0 (each_all fs h.1)
+
+in_interface : (m : Mode) → list_any (λ x. rank x == rank m) interface ≡ true → m ≡ InInterface
+in_interface Top e = absurd (let f : false ≡ true = e in cc)
+in_interface InInterface e = refl
+in_interface InBgp e = absurd (let f : false ≡ true = e in cc)
+in_interface InOspf e = absurd (let f : false ≡ true = e in cc)
+in_interface InMap e = absurd (let f : false ≡ true = e in cc)
+in_interface InFamily e = absurd (let f : false ≡ true = e in cc)
+
+in_the_map : (m : Mode) → list_any (λ x. rank x == rank m) in_map ≡ true → m ≡ InMap
+in_the_map Top e = absurd (let f : false ≡ true = e in cc)
+in_the_map InInterface e = absurd (let f : false ≡ true = e in cc)
+in_the_map InBgp e = absurd (let f : false ≡ true = e in cc)
+in_the_map InOspf e = absurd (let f : false ≡ true = e in cc)
+in_the_map InMap e = refl
+in_the_map InFamily e = absurd (let f : false ≡ true = e in cc)
+
+in_either : (m : Mode) → list_any (λ x. rank x == rank m) bgp_and_family ≡ true → (m ≡ InBgp) ⊎ (m ≡ InFamily)
+in_either Top e = absurd (let f : false ≡ true = e in cc)
+in_either InInterface e = absurd (let f : false ≡ true = e in cc)
+in_either InBgp e = inl refl
+in_either InOspf e = absurd (let f : false ≡ true = e in cc)
+in_either InMap e = absurd (let f : false ≡ true = e in cc)
+in_either InFamily e = inr refl
+
+in_bgp : (m : Mode) → list_any (λ x. rank x == rank m) bgp ≡ true → (m ≡ InBgp) ⊎ (m ≡ InFamily)
+in_bgp Top e = absurd (let f : false ≡ true = e in cc)
+in_bgp InInterface e = absurd (let f : false ≡ true = e in cc)
+in_bgp InBgp e = inl refl
+in_bgp InOspf e = absurd (let f : false ≡ true = e in cc)
+in_bgp InMap e = absurd (let f : false ≡ true = e in cc)
+in_bgp InFamily e = absurd (let f : false ≡ true = e in cc)
+
+in_family : (m : Mode) → list_any (λ x. rank x == rank m) family ≡ true → (m ≡ InBgp) ⊎ (m ≡ InFamily)
+in_family Top e = absurd (let f : false ≡ true = e in cc)
+in_family InInterface e = absurd (let f : false ≡ true = e in cc)
+in_family InBgp e = absurd (let f : false ≡ true = e in cc)
+in_family InOspf e = absurd (let f : false ≡ true = e in cc)
+in_family InMap e = absurd (let f : false ≡ true = e in cc)
+in_family InFamily e = inr refl
+
+top_rows_stand : EachStands top_rows
+top_rows_stand = ((λ m e. tt), ((λ m e. tt), ((λ m e. tt), ((λ m e. tt), ((λ m e. tt), ((λ m e. tt), ((λ m e. tt), ((λ m e. inr refl), ((λ m e. tt), ((λ m e. tt), ((λ m e. tt), ((λ m e. tt), ((λ m e. tt), ((λ m e. tt), ((λ m e. tt), ((λ m e. tt), ((λ m e. tt), ((λ m e. tt), ((λ m e. tt), tt)))))))))))))))))))
+
+interface_rows_stand : EachStands interface_rows
+interface_rows_stand = (in_interface, (in_interface, (in_interface, (in_interface, ((λ m e. tt), ((λ m e. tt), tt))))))
+
+ospf_rows_stand : EachStands ospf_rows
+ospf_rows_stand = ((λ m e. tt), ((λ m e. tt), tt))
+
+bgp_rows_stand : EachStands bgp_rows
+bgp_rows_stand = (in_bgp, (in_bgp, (in_bgp, ((λ m e. tt), ((λ m e. tt), ((λ m e. tt), tt))))))
+
+bgp_and_family_rows_stand : EachStands bgp_and_family_rows
+bgp_and_family_rows_stand = (in_either, (in_either, (in_either, (in_either, (in_either, (in_either, (in_either, (in_either, tt))))))))
+
+family_rows_stand : EachStands family_rows
+family_rows_stand = (in_family, tt)
+
+map_rows_stand : EachStands map_rows
+map_rows_stand = ((λ m e. inl (in_the_map m e)), ((λ m e. inl (in_the_map m e)), ((λ m e. inl (in_the_map m e)), ((λ m e. inl (in_the_map m e)), ((λ m e. inl (in_the_map m e)), ((λ m e. inl (in_the_map m e)), ((λ m e. inl (in_the_map m e)), ((λ m e. inl (in_the_map m e)), ((λ m e. inl (in_the_map m e)), tt)))))))))
+
+leaving_rows_stand : EachStands leaving_rows
+leaving_rows_stand = ((λ m e. tt), ((λ m e. tt), tt))
+
+both_stand : (fs gs : List FormValue) → EachStands fs → EachStands gs → EachStands (fs ++ gs)
+both_stand [] gs h k = k
+both_stand (f ∷ fs) gs h k = (h.0, both_stand fs gs h.1 k)
+
+table_stands : EachStands table
+table_stands = both_stand top_rows (interface_rows ++ ospf_rows ++ bgp_rows ++ bgp_and_family_rows ++ family_rows ++ map_rows ++ leaving_rows) top_rows_stand (both_stand interface_rows (ospf_rows ++ bgp_rows ++ bgp_and_family_rows ++ family_rows ++ map_rows ++ leaving_rows) interface_rows_stand (both_stand ospf_rows (bgp_rows ++ bgp_and_family_rows ++ family_rows ++ map_rows ++ leaving_rows) ospf_rows_stand (both_stand bgp_rows (bgp_and_family_rows ++ family_rows ++ map_rows ++ leaving_rows) bgp_rows_stand (both_stand bgp_and_family_rows (family_rows ++ map_rows ++ leaving_rows) bgp_and_family_rows_stand (both_stand family_rows (map_rows ++ leaving_rows) family_rows_stand (both_stand map_rows leaving_rows map_rows_stand leaving_rows_stand))))))
+
+pub stands_where : (f : FormValue) (m : Mode) → Contains table f → stands_in f m ≡ true → StandsWhere f.head f.row m
+stands_where f m c e = All-contains FormStands table f (each_all table table_stands) c m e

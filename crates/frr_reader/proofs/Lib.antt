@@ -11,4 +11,6 @@ pub mod NeedLemmas
 pub mod OpenLemmas
 pub mod PolicyLemmas
 pub mod RangeLemmas
+pub mod RowCauseLemmas
+pub mod StateLemmas
 pub mod ValueLemmas

@@ -1,11 +1,12 @@
 -- How long the parts of a file are, and its lines from one on.
-use Rattle.std.proofs.Common.{ℕ, ◌≡◌, ◌+◌, ◌==◌, Bool, true, false, List, [], ◌∷◌, ◌++◌, length, arith, ap, refl, ◌∙◌, Option, Some, None, MatchOption}
+use Rattle.std.proofs.Common.{ℕ, ◌≡◌, ◌+◌, ◌==◌, Bool, true, false, List, [], ◌∷◌, ◌++◌, length, arith, ap, subst, refl, ◌∙◌, Option, Some, None, MatchOption}
 use Rattle.std.specs.Borrow.{Bor}
 use Rattle.std.specs.List.{onto_first}
 use Rattle.std.proofs.lemmas.List.Splits.{slice_split-cons_no, slice_split-cons_yes}
 use Rattle.net_types.specs.Cut.{parts}
 use Rattle.net_types.proofs.CutLemmas.{first_part}
 use Rattle.frr_reader.specs.Lines.{LineValue, numbered, lines, line_at}
+use Rattle.frr_reader.specs.LineLaws.{IsPlaced}
 
 -- the bytes of the parts, and one for each
 abbrev sizes : List (List ℕ) → ℕ
@@ -59,3 +60,44 @@ counted-lines text = counted-numbered (parts 10 text) 1 0 0 refl
 pub counted-left : (n : ℕ) (xs ys : List LineValue) → Counted n (xs ++ ys) → Counted n xs
 counted-left n [] ys h = tt
 counted-left n (x ∷ xs) ys h = (h.0, counted-left (n + 1) xs ys h.1)
+
+-- the number of a line is by its place, and the last one reaches to the end of the file
+
+counted_at : (n : ℕ) (xs ys : List LineValue) (line : LineValue) → Counted n (xs ++ line ∷ ys) → line.number ≡ n + length xs + 1
+counted_at n [] ys line h = let e = h.0 in omega arith
+counted_at n (x ∷ xs) ys line h = let e = counted_at (n + 1) xs ys line h.1 in omega arith
+
+no_line : (xs : List LineValue) (line : LineValue) → [] ≡ xs ++ line ∷ [] → ⊥
+no_line [] line e = cc
+no_line (x ∷ xs) line e = cc
+
+same_tail : (x y : LineValue) (xs ys : List LineValue) → x ∷ xs ≡ y ∷ ys → xs ≡ ys
+same_tail x y xs ys e = cc
+
+same_head : (x y : LineValue) (xs ys : List LineValue) → x ∷ xs ≡ y ∷ ys → x ≡ y
+same_head x y xs ys e = cc
+
+last_reaches : (ps : List (List ℕ)) (number before : ℕ) (xs : List LineValue) (line : LineValue) → numbered number before ps ≡ xs ++ line ∷ [] → line.reach + 1 ≡ before + sizes ps
+last_reaches [] number before xs line e = absurd (no_line xs line e)
+last_reaches (last ∷ []) number before [] line e =
+    let h = ap (λ (l : LineValue). l.reach) (same_head (line_at number last (before + length last)) line [] [] e) in
+    omega arith
+last_reaches (last ∷ []) number before (x ∷ xs) line e = absurd (no_line xs line (same_tail (line_at number last (before + length last)) x [] (xs ++ line ∷ []) e))
+last_reaches (part ∷ next ∷ []) number before [] line e = absurd (let f = same_tail _ line (numbered (number + 1) (before + length part + 1) (next ∷ [])) [] e in cc)
+last_reaches (part ∷ next ∷ other ∷ more) number before [] line e = absurd (let f = same_tail _ line (numbered (number + 1) (before + length part + 1) (next ∷ other ∷ more)) [] e in cc)
+last_reaches (part ∷ next ∷ more) number before (x ∷ xs) line e =
+    let h = last_reaches (next ∷ more) (number + 1) (before + length part + 1) xs line (same_tail _ x (numbered (number + 1) (before + length part + 1) (next ∷ more)) (xs ++ line ∷ []) e) in
+    omega arith
+
+last_of : (text : List ℕ) (xs : List LineValue) (line : LineValue) → lines text ≡ xs ++ line ∷ [] → line.reach ≡ length text
+unfolding lines
+last_of text xs line e =
+    let h = last_reaches (parts 10 text) 1 0 xs line e in
+    let s = sizes-parts 10 text in
+    omega arith
+
+pub is_placed : (text : List ℕ) (before behind : List LineValue) (line : LineValue) → lines text ≡ before ++ line ∷ behind → IsPlaced text before behind line
+is_placed text before behind line e = record {
+  number = (let n = counted_at 0 before behind line (subst (Counted 0) e (counted-lines text)) in omega arith);
+  last = λ f. last_of text before line (e ∙ ap (λ xs. before ++ line ∷ xs) f);
+}

@@ -3,18 +3,13 @@ use Rattle.std.proofs.Common.{ℕ, ◌≡◌, ◌⊎◌, ◌<◌, Bool, true, fa
 use Rattle.std.specs.Option.{option_map_or}
 use Rattle.net_types.specs.Order.{same_text}
 use Rattle.net_types.specs.declared.config.RouteMap.{RouteMap}
-use Rattle.net_types.specs.declared.config.PrefixEntry.{PrefixEntry}
-use Rattle.net_types.specs.declared.config.CommunityEntry.{CommunityEntry}
 use Rattle.net_types.specs.declared.config.MapEntry.{MapEntry}
-use Rattle.std.proofs.lemmas.List.Sorted.{IsPermutation-insert}
 use Rattle.frr_policy.specs.Words.{words}
 use Rattle.frr_reader.specs.declared.causes.Cause.TheVariants.{Unsupported, OutOfPlace}
 use Rattle.frr_reader.specs.declared.modes.Mode.{Mode}
 use Rattle.frr_reader.specs.declared.modes.Mode.TheVariants.{Top, InInterface, InBgp, InOspf, InMap, InFamily}
 use Rattle.frr_reader.specs.Table.{FoundValue, FormValue, found_from, found_in, by_form, stands_in, behind, first_given, or_else, or_cause, is_known, modes_from, outer, table}
 use Rattle.frr_reader.specs.State.{State, IsOpen}
-use Rattle.frr_reader.specs.Effects.{with_begun}
-use Rattle.frr_reader.specs.LineLaws.{LosesNoEntry, OpensWhatItBegins}
 use Rattle.frr_reader.specs.Entries.{put, place_for, with_map_entry, place_of_map, place_of_entry, entry_at, with_entry_at}
 use Rattle.frr_reader.proofs.EntryLemmas.{put-there, on_first-there, set-there}
 
@@ -235,15 +230,3 @@ changed_there map place entry maps h = go (slice_get maps map) refl h where
   go : (o : Option RouteMap) → slice_get maps map ≡ o → IsSome (slice_get (option_map_or (λ (x : RouteMap). x.entries) o []) place) → IsSome (slice_get (option_map_or (λ (x : RouteMap). x.entries) (slice_get (option_map_or (λ (x : RouteMap). slice_set maps map (record x { entries = slice_set x.entries place entry })) o maps) map) []) place)
   go None e k = absurd (let g : false ≡ true = k in cc)
   go (Some m) e k = inner m e (slice_get m.entries place) refl k
-
--- a new entry stands beside the others, and that of a map is open
-pub loses_no_entry : LosesNoEntry
-loses_no_entry = record {
-  prefixes = λ e es. IsPermutation-insert es (place_for (λ (x : PrefixEntry). x.seq) e.seq es) e;
-  communities = λ e es. IsPermutation-insert es (place_for (λ (x : CommunityEntry). x.seq) e.seq es) e;
-  maps = λ e es. IsPermutation-insert es (place_for (λ (x : MapEntry). x.seq) e.seq es) e;
-}
-
-pub opens_what_it_begins : OpensWhatItBegins
-unfolding with_begun
-opens_what_it_begins = λ name entry s. begun_there name entry s.maps

@@ -10,3 +10,4 @@ pub mod Effects
 pub mod Reading
 pub mod FirstRefusal
 pub mod LineLaws
+pub mod StateLaws

@@ -1,24 +1,29 @@
--- What is true of each line and each state, said without the steps that give it: each cause by itself, the
--- mode in which a line is taken, and what a line leaves as it was.
-use Rattle.std.specs.Prelude.{ℕ, ◌≡◌, ◌<◌, ◌≤◌, ◌↔◌, ◌++◌, Bool, true, false, All, Contains, List, [], ◌∷◌, length, map, filter, Some, Result, Ok, Err}
+-- What is true of each line, said without the steps that give it: each cause by itself, and the mode in which
+-- a line is taken.
+use Rattle.std.specs.Prelude.{ℕ, ◌≡◌, ◌+◌, ◌<◌, ◌≤◌, ◌↔◌, ◌⊎◌, ◌++◌, Bool, true, false, All, Contains, List, [], ◌∷◌, length, map, filter, Option, Some, None, Result, Ok, Err}
 use Rattle.std.specs.List.{list_any}
-use Rattle.std.specs.List.Sorted.{IsPermutation}
-use Rattle.net_types.specs.declared.config.PrefixEntry.{PrefixEntry}
-use Rattle.net_types.specs.declared.config.CommunityEntry.{CommunityEntry}
-use Rattle.net_types.specs.declared.config.MapEntry.{MapEntry}
+use Rattle.net_types.specs.declared.config.BgpConfig.{BgpConfig}
 use Rattle.frr_policy.specs.Words.{words}
 use Rattle.frr_policy.specs.MapLines.{LineRow, map_table}
 use Rattle.frr_reader.specs.declared.causes.Cause.{Cause}
 use Rattle.frr_reader.specs.declared.causes.Cause.TheVariants.{NotText, LineTooLong, Unsupported, OutOfPlace, OutOfLimit}
 use Rattle.frr_reader.specs.declared.modes.Mode.{Mode}
 use Rattle.frr_reader.specs.declared.rows.Row.{Row}
-use Rattle.frr_reader.specs.declared.rows.Row.TheVariants.{MapLine, NoEffect}
-use Rattle.frr_reader.specs.Lines.{LineValue}
+use Rattle.frr_reader.specs.declared.rows.Row.TheVariants.{MapLine, OfBgp, NoEffect}
+use Rattle.frr_reader.specs.declared.rows.BgpRow.TheVariants.{NeighborMap, OfNeighbor}
+use Rattle.frr_reader.specs.Lines.{LineValue, lines}
 use Rattle.frr_reader.specs.Table.{FormValue, FoundValue, table, stands_in, behind, has_head, is_known, found_from, modes_from}
-use Rattle.frr_reader.specs.State.{State}
-use Rattle.frr_reader.specs.Entries.{put}
-use Rattle.frr_reader.specs.Effects.{open_entry, with_begun}
+use Rattle.frr_reader.specs.State.{State, IsOpen}
+use Rattle.frr_reader.specs.Bgp.{named_neighbor}
 use Rattle.frr_reader.specs.Reading.{is_control, begins_comment, by_words, step}
+
+-- a line is numbered by how many stand before it, and the last one reaches to the end of the file
+pub record IsPlaced (text : List ℕ) (before behind : List LineValue) (line : LineValue) : Type 0 where
+  pub number : line.number ≡ length before + 1
+  pub last : behind ≡ [] → line.reach ≡ length text
+
+abbrev pub EachLineIsPlaced : Type 0
+EachLineIsPlaced = (text : List ℕ) (before behind : List LineValue) (line : LineValue) → lines text ≡ before ++ line ∷ behind → IsPlaced text before behind line
 
 -- the row stands in the mode, and the line has its head
 abbrev pub TakesIn : List (List ℕ) → Mode → FormValue → Type 0
@@ -56,12 +61,23 @@ IsStatement (word ∷ more) = begins_comment word ≡ false
 abbrev pub words_at : State → LineValue → Result State Cause
 words_at s line = by_words (record s { number = line.number }) (words line.text)
 
+-- a line of a neighbor whose `remote-as` does not stand before
+pub record NamesNoNeighbor (now : Mode) (bgp : Option BgpConfig) (line : List (List ℕ)) : Type 0 where
+  pub found : FoundValue
+  pub taken : found_from now line ≡ Ok found
+  pub row : (found.row ≡ OfBgp NeighborMap) ⊎ (found.row ≡ OfBgp OfNeighbor)
+  pub before : (b : BgpConfig) → bgp ≡ Some b → named_neighbor line b ≡ None
+
+-- no row takes the line in an open mode, or it is such a line
+abbrev pub IsDisplaced : Mode → Option BgpConfig → List (List ℕ) → Type 0
+IsDisplaced now bgp line = All (NoneTakesIn line) (modes_from now) ⊎ NamesNoNeighbor now bgp line
+
 -- each cause of a line by itself
 pub record IsLineLaw (s : State) (line : LineValue) : Type 0 where
   pub not_text : (step s line ≡ Err NotText) ↔ (list_any is_control line.text ≡ true)
   pub too_long : (step s line ≡ Err LineTooLong) ↔ ((list_any is_control line.text ≡ false) × (512 < length line.text))
   pub unsupported : (step s line ≡ Err Unsupported) ↔ (IsReadable line × (IsStatement (words line.text) × (is_known (words line.text) ≡ false)))
-  pub out_of_place : IsReadable line → IsStatement (words line.text) → is_known (words line.text) ≡ true → All (NoneTakesIn (words line.text)) (modes_from s.mode) → step s line ≡ Err OutOfPlace
+  pub out_of_place : IsOpen s → (step s line ≡ Err OutOfPlace) ↔ (IsReadable line × (IsStatement (words line.text) × ((is_known (words line.text) ≡ true) × IsDisplaced s.mode s.bgp (words line.text))))
   pub idle : IsReadable line → (IsStatement (words line.text) → ⊥) → line.reach ≤ 262144 → step s line ≡ Ok (record s { number = line.number })
   pub no_effect : (found : FoundValue) → IsReadable line → IsStatement (words line.text) → found_from s.mode (words line.text) ≡ Ok found → found.row ≡ NoEffect → line.reach ≤ 262144 → step s line ≡ Ok (record s { number = line.number; mode = found.mode })
   pub too_far : (t : State) → IsReadable line → words_at s line ≡ Ok t → (step s line ≡ Err OutOfLimit) ↔ (262144 < line.reach)
@@ -80,13 +96,3 @@ map_heads forms = map (λ (f : FormValue). words f.head) (filter (λ (f : FormVa
 
 abbrev pub SameMapHeads : Type 0
 SameMapHeads = map_heads table ≡ map (λ (r : LineRow). r.head) map_table
-
--- an entry that is put beside others loses none of them
-pub record LosesNoEntry : Type 0 where
-  pub prefixes : (e : PrefixEntry) (es : List PrefixEntry) → IsPermutation (e ∷ es) (put (λ (x : PrefixEntry). x.seq) e es)
-  pub communities : (e : CommunityEntry) (es : List CommunityEntry) → IsPermutation (e ∷ es) (put (λ (x : CommunityEntry). x.seq) e es)
-  pub maps : (e : MapEntry) (es : List MapEntry) → IsPermutation (e ∷ es) (put (λ (x : MapEntry). x.seq) e es)
-
--- the entry that a line begins is the one that is open behind it
-abbrev pub OpensWhatItBegins : Type 0
-OpensWhatItBegins = (name : List ℕ) (entry : MapEntry) (s : State) → open_entry (with_begun name entry s) ≡ Some entry

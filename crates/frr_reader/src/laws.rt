@@ -1,17 +1,24 @@
 //! What is true of lines and states, stated over definitions: each law is the contract of a function that does
 //! nothing.
 
-ghost use Rattle.frr_reader.specs.LineLaws.{EachIsTakenInnermost, EachLineHasItsCause, SameMapHeads, LosesNoEntry, OpensWhatItBegins};
+ghost use Rattle.frr_reader.specs.LineLaws.{EachLineIsPlaced, EachLineHasItsCause, EachIsTakenInnermost, SameMapHeads};
+ghost use Rattle.frr_reader.specs.StateLaws.{OpensTheNamedInterface, ChangesTheOpenInterface, LosesNoEntry, OpensWhatItBegins, ChangesTheOpenEntry};
 
-/// Each cause of a line by itself; and a line is taken in the innermost mode that has a row with its head.
+/// Lines are numbered one after another, and the last reaches to the file's end; each cause of a line by itself;
+/// a line is taken in the innermost mode that has a row with its head; and the
+/// heads of the lines of maps are those that `frr_policy` reads.
 pub fn line_laws()
+    ensures places { EachLineIsPlaced }
     ensures causes { EachLineHasItsCause }
     ensures innermost { EachIsTakenInnermost }
     ensures heads { SameMapHeads }
 {}
 
-/// A new entry of a list or a map stands beside the others, and that of a map is the open one.
-pub fn entry_laws()
-    ensures all { LosesNoEntry }
+/// What a line opens is what it names, what it changes is what is open, and all else stays.
+pub fn state_laws()
+    ensures interface { OpensTheNamedInterface }
+    ensures interfaces { ChangesTheOpenInterface }
+    ensures entries { LosesNoEntry }
     ensures opened { OpensWhatItBegins }
+    ensures changed { ChangesTheOpenEntry }
 {}

@@ -23,7 +23,7 @@ mod state;
 mod table;
 mod values;
 
-pub use laws::{entry_laws, line_laws};
+pub use laws::{line_laws, state_laws};
 pub use reading::{read_router, reading_law};
 
 #[cfg(test)]
