@@ -1,23 +1,31 @@
--- A property with a certificate holds.
-use Rattle.std.proofs.Common.{ℕ, ◌≡◌, ◌<◌, true, List, [], ◌∷◌, length, Option, Some, None, position, sym, subst, ◌∙◌}
+-- A property with a certificate holds, and where no link is a session one to reach without a certificate does not.
+use Rattle.std.proofs.Common.{ℕ, ◌≡◌, ◌<◌, ◌≤◌, true, arith, List, [], ◌∷◌, length, Option, Some, None, position, sym, subst, ◌∙◌}
 use Rattle.std.proofs.lemmas.Bool.{false≢true}
+use Rattle.std.proofs.lemmas.Bool.Decides.{nat_tests}
+use Rattle.std.proofs.lemmas.List.{nil_from_length}
+use Rattle.std.proofs.lemmas.List.Elements.{All-nil}
 use Rattle.std.proofs.lemmas.List.Quantifiers.{position-Some}
+use Rattle.net_types.specs.declared.routes.Route.{Route}
 use Rattle.net_types.specs.declared.network.Router.{Router}
 use Rattle.net_types.specs.NetFacts.{IsNet}
 use Rattle.net_types.specs.NetValue.{NetValue}
 use Rattle.net_types.specs.Distance.{AreDistances}
 use Rattle.net_types.specs.Order.{same_text}
 use Rattle.ospf_paths.proofs.Existence.{distances_exist}
+use Rattle.failure_sets.specs.SetOrder.{IsPermitted}
+use Rattle.concrete_algebra.specs.Problem.{problem_of}
+use Rattle.concrete_algebra.specs.Stability.{IsStable}
 use Rattle.route_desk.specs.declared.property.Property.{Property}
 use Rattle.route_desk.specs.declared.property.Kind.{Kind}
 use Rattle.route_desk.specs.declared.property.Kind.TheVariants.{Reach, Isolated, Waypoint}
 use Rattle.route_desk.specs.declared.verdict.Verdict.{Verdict}
-use Rattle.route_desk.specs.declared.verdict.Verdict.TheVariants.{Certified, NotCertified, NotApplicable}
 use Rattle.route_desk.specs.Applicable.{number_of}
 use Rattle.route_desk.specs.Book.{IsAsked, is_analysed}
 use Rattle.route_desk.specs.Meaning.{HasKind, HoldsIfCertified}
-use Rattle.route_desk.specs.Verdicts.{HasSureRoute, IsCertified, IsVerdict}
-use Rattle.route_desk.proofs.ForwardLemmas.{reaches, sure_by_distances}
+use Rattle.route_desk.specs.VerdictLaws.{HoldsWithFewer, NotCertifiedFails, SureRoutesReach}
+use Rattle.route_desk.specs.Verdicts.{HasNoSession, HasSureRoute, IsCertified, IsVerdict}
+use Rattle.route_desk.proofs.ForwardLemmas.{reaches, sure_by_distances, sure_by_reach, sure_by_walks}
+use Rattle.route_desk.proofs.QuietLemmas.{none_learned, some_are_stable}
 
 unwrap : (a b : ℕ) → Some a ≡ Some b → a ≡ b
 unwrap a b h = cc
@@ -27,18 +35,49 @@ number_below : (routers : List Router) (host : List ℕ) (u : ℕ) → position 
 number_below [] host u e = absurd (let e' : None ≡ Some u = e in cc)
 number_below (r ∷ routers) host u e = (position-Some (λ (router : Router). same_text router.host host) (r ∷ routers) u r e).0
 
-by_kind : (net : NetValue) → IsNet net → (property : Property) (ds : List (Option ℕ)) → AreDistances net property.prefix [] ds → (u : ℕ) → number_of net property.router ≡ Some u → IsCertified net property → (kind : Kind) → is_analysed kind property.failures ≡ true → HasKind net property ds u kind
-by_kind net valid property ds are u is certified Reach asked =
+empty : (failed : List ℕ) (most : ℕ) → most ≡ 0 → length failed ≤ most → failed ≡ []
+empty failed most none few = nil_from_length failed (omega arith)
+
+no_failure : (failures : ℕ) → is_analysed Reach failures ≡ true → failures ≡ 0
+no_failure failures asked = grind (arith, nat_tests)
+
+by_kind : (net : NetValue) → IsNet net → HasNoSession net → (property : Property) (failed : List ℕ) (ds : List (Option ℕ)) (labels : List (Option Route)) (u : ℕ) → number_of net property.router ≡ Some u → IsPermitted (length net.links) property.failures failed → AreDistances net property.prefix failed ds → IsStable (problem_of net property.prefix failed ds) labels → IsCertified net property → (kind : Kind) → is_analysed kind property.failures ≡ true → HasKind net property.prefix failed ds labels u kind
+by_kind net valid quiet property failed ds labels u is permitted are stable certified Reach asked =
     let same : certified.router ≡ u = unwrap certified.router u (sym certified.asks.router ∙ is) in
     let low = number_below net.routers property.router u is in
     let sure = subst (λ (v : ℕ). HasSureRoute net property.prefix v) same certified.sure in
-    reaches net valid property.prefix ds are u (sure_by_distances net property.prefix ds are u low sure)
-by_kind net valid property ds are u is certified Isolated asked = absurd (false≢true asked)
-by_kind net valid property ds are u is certified (Waypoint via) asked = absurd (false≢true asked)
+    let none = none_learned net property.prefix failed ds labels valid quiet stable in
+    let unbroken = empty failed property.failures (no_failure property.failures asked) permitted.few in
+    let are_whole = subst (λ (f : List ℕ). AreDistances net property.prefix f ds) unbroken are in
+    reaches net valid property.prefix failed ds labels none are u (sure_by_distances net property.prefix ds are_whole u low sure)
+by_kind net valid quiet property failed ds labels u is permitted are stable certified Isolated asked = absurd (false≢true asked)
+by_kind net valid quiet property failed ds labels u is permitted are stable certified (Waypoint via) asked = absurd (false≢true asked)
 
-pub certified_holds : (net : NetValue) (property : Property) (verdict : Verdict) → IsNet net → IsAsked property → IsVerdict net property verdict → HoldsIfCertified net property verdict
-certified_holds net property Certified valid asked certified = λ u is.
-    let all = distances_exist net valid property.prefix [] in
-    (all.0, all.1, by_kind net valid property all.0 all.1 u is certified property.kind asked)
-certified_holds net property (NotCertified failed broken) valid asked verdict = tt
-certified_holds net property (NotApplicable bar) valid asked verdict = tt
+pub certified_holds : (net : NetValue) (property : Property) (verdict : Verdict) → IsNet net → HasNoSession net → IsAsked property → IsVerdict net property verdict → HoldsIfCertified net property verdict
+certified_holds net property verdict valid quiet asked is = λ same u here failed permitted.
+    let certified : IsCertified net property = subst (λ (v : Verdict). IsVerdict net property v) same is in
+    let all = distances_exist net valid property.prefix failed in
+    (all.0, all.1, λ labels stable. by_kind net valid quiet property failed all.0 labels u here permitted all.1 stable certified property.kind asked)
+
+-- ---- and a property to reach without one does not, where no link is a session
+
+pub sure_routes_reach : SureRoutesReach
+sure_routes_reach net prefix ds labels u valid are none low = (
+  (λ r. sure_by_walks net prefix ds are u (sure_by_reach net prefix [] ds labels none u r)),
+  (λ sure. reaches net valid prefix [] ds labels none are u (sure_by_distances net prefix ds are u low sure)),
+)
+
+none_permitted : (links most : ℕ) → IsPermitted links most []
+none_permitted links most = record { few = omega arith; ascending = λ k more. absurd (omega arith); below = All-nil (λ (link : ℕ). link < links) }
+
+pub not_certified_fails : NotCertifiedFails
+not_certified_fails net property failed broken valid quiet kind not holds =
+    let h = holds not.router not.asks.router [] (none_permitted (length net.links) property.failures) in
+    let some = some_are_stable net property.prefix [] h.0 valid quiet in
+    let r = subst (λ (k : Kind). HasKind net property.prefix [] h.0 some.0 not.router k) kind (h.2 some.0 some.1) in
+    let none = none_learned net property.prefix [] h.0 some.0 valid quiet some.1 in
+    not.unsure (sure_by_walks net property.prefix h.0 h.1 not.router (sure_by_reach net property.prefix [] h.0 some.0 none not.router r))
+
+pub holds_with_fewer : HoldsWithFewer
+holds_with_fewer net property fewer less holds = λ u is failed permitted.
+    holds u is failed (record { few = (let f = permitted.few in omega arith); ascending = permitted.ascending; below = permitted.below })

@@ -1,6 +1,6 @@
 -- Where traffic for a prefix goes at a labelling, and what a property means there. An owner delivers; a
 -- learned label goes to its sender; else traffic goes to each next hop of OSPF; else it is stuck.
-use Rattle.std.specs.Prelude.{ℕ, ◌≡◌, ◌<◌, ◌*◌, true, false, List, [], ◌∷◌, length, Option, Some, None, Contains, slice_index_or}
+use Rattle.std.specs.Prelude.{ℕ, ◌≡◌, ◌<◌, ◌*◌, true, false, List, [], ◌∷◌, length, Option, Some, None, Contains}
 use Rattle.net_types.specs.declared.routes.Route.{Route}
 use Rattle.net_types.specs.declared.routes.Source.{Source}
 use Rattle.net_types.specs.declared.routes.Source.TheVariants.{Local, Learned}
@@ -9,10 +9,7 @@ use Rattle.net_types.specs.PrefixValue.{PrefixValue}
 use Rattle.net_types.specs.Arcs.{sender_of}
 use Rattle.net_types.specs.Owners.{owns}
 use Rattle.net_types.specs.Distance.{HasHop, distance_at}
-
--- the label that a labelling gives a router: a route, or none
-abbrev pub label_at : List (Option Route) → ℕ → Option Route
-label_at labels u = slice_index_or labels u None
+use Rattle.concrete_algebra.specs.Stability.{is_learned, label_at}
 
 -- traffic at router u, whose label comes from this source, goes on to router v
 abbrev pub GoesBySource : NetValue → PrefixValue → List ℕ → List (Option ℕ) → ℕ → ℕ → Source → Type 0
@@ -44,19 +41,10 @@ pub record Reaches (net : NetValue) (prefix : PrefixValue) (failed : List ℕ) (
   pub not_stuck : (walk : List ℕ) → IsForwardWalk net prefix failed distances labels u walk → owns net (last_of u walk) prefix ≡ false → (v : ℕ) × Forwards net prefix failed distances labels (last_of u walk) v
   pub soon : (walk : List ℕ) → IsForwardWalk net prefix failed distances labels u walk → owns net (last_of u walk) prefix ≡ false → length walk < 2 * length net.routers
 
--- the label is learned
-abbrev pub IsLearnedFrom : Source → Type 0
-IsLearnedFrom Local = ⊥
-IsLearnedFrom (Learned arc) = Unit {0}
-
-abbrev pub IsLearned : Option Route → Type 0
-IsLearned None = ⊥
-IsLearned (Some route) = IsLearnedFrom route.source
-
 -- isolated: u is no owner, its label is not learned, and it has no distance
 pub record IsIsolated (net : NetValue) (prefix : PrefixValue) (distances : List (Option ℕ)) (labels : List (Option Route)) (u : ℕ) : Type 0 where
   pub no_owner : owns net u prefix ≡ false
-  pub not_learned : IsLearned (label_at labels u) → ⊥
+  pub not_learned : is_learned (label_at labels u) ≡ false
   pub no_distance : distance_at distances u ≡ None
 
 -- waypoint: each forwarding walk from u that ends at an owner visits w; u itself counts

@@ -12,4 +12,7 @@ pub mod Ending
 pub mod StableEnding
 pub mod Running
 pub mod Forwarding
+pub mod ForwardingLaws
+pub mod QuietLaws
+pub mod VerdictLaws
 pub mod Meaning

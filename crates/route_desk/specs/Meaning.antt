@@ -1,29 +1,36 @@
--- What a certificate means: the property holds. In a network without sessions no router has a label.
-use Rattle.std.specs.Prelude.{ℕ, ◌≡◌, List as Seq, [], Option, Some}
-use Rattle.net_types.specs.NetValue.{NetValue}
+-- What a certificate means: the property holds, whatever permitted set of links has failed, in every stable labelling.
+use Rattle.std.specs.Prelude.{ℕ, ◌≡◌, List as Seq, length, Option, Some}
+use Rattle.net_types.specs.declared.routes.Route.{Route}
 use Rattle.net_types.specs.Distance.{AreDistances}
+use Rattle.net_types.specs.NetValue.{NetValue}
+use Rattle.net_types.specs.PrefixValue.{PrefixValue}
+use Rattle.failure_sets.specs.SetOrder.{IsPermitted}
+use Rattle.concrete_algebra.specs.Problem.{problem_of}
+use Rattle.concrete_algebra.specs.Stability.{IsStable}
 use Rattle.route_desk.specs.declared.property.Property.{Property}
 use Rattle.route_desk.specs.declared.property.Kind.{Kind}
 use Rattle.route_desk.specs.declared.property.Kind.TheVariants.{Reach, Isolated, Waypoint}
 use Rattle.route_desk.specs.declared.verdict.Verdict.{Verdict}
-use Rattle.route_desk.specs.declared.verdict.Verdict.TheVariants.{Certified, NotCertified, NotApplicable}
+use Rattle.route_desk.specs.declared.verdict.Verdict.TheVariants.{Certified}
 use Rattle.route_desk.specs.Applicable.{number_of}
 use Rattle.route_desk.specs.Forwarding.{Reaches, IsIsolated, GoesThrough}
 
--- what a kind asks of router u, with no failed link and without labels
-abbrev pub HasKind : NetValue → Property → Seq (Option ℕ) → ℕ → Kind → Type 0
-HasKind net property distances u Reach = Reaches net property.prefix [] distances [] u
-HasKind net property distances u Isolated = IsIsolated net property.prefix distances [] u
-HasKind net property distances u (Waypoint via) = (w : ℕ) → number_of net via ≡ Some w → GoesThrough net property.prefix [] distances [] w u
+-- what a kind asks of router u at a labelling, with these links failed
+abbrev pub HasKind : NetValue → PrefixValue → Seq ℕ → Seq (Option ℕ) → Seq (Option Route) → ℕ → Kind → Type 0
+HasKind net prefix failed distances labels u Reach = Reaches net prefix failed distances labels u
+HasKind net prefix failed distances labels u Isolated = IsIsolated net prefix distances labels u
+HasKind net prefix failed distances labels u (Waypoint via) = (w : ℕ) → number_of net via ≡ Some w → GoesThrough net prefix failed distances labels w u
 
--- the property holds: at its router, for the distances of the network, of which there is one list
+-- the property holds: at its router, whatever set of links that it permits has failed, for the distances then, of which
+-- there is one list, in each stable labelling
 abbrev pub Holds : NetValue → Property → Type 0
 Holds net property =
     (u : ℕ) → number_of net property.router ≡ Some u →
-    (distances : Seq (Option ℕ)) × AreDistances net property.prefix [] distances × HasKind net property distances u property.kind
+    (failed : Seq ℕ) → IsPermitted (length net.links) property.failures failed →
+    (distances : Seq (Option ℕ)) × AreDistances net property.prefix failed distances ×
+    ((labels : Seq (Option Route)) → IsStable (problem_of net property.prefix failed distances) labels →
+    HasKind net property.prefix failed distances labels u property.kind)
 
 -- a property with a certificate holds
 abbrev pub HoldsIfCertified : NetValue → Property → Verdict → Type 0
-HoldsIfCertified net property Certified = Holds net property
-HoldsIfCertified net property (NotCertified failed broken) = Unit {0}
-HoldsIfCertified net property (NotApplicable bar) = Unit {0}
+HoldsIfCertified net property verdict = verdict ≡ Certified → Holds net property

@@ -1,7 +1,8 @@
 -- What a property's verdict is in a network without sessions, with no failed link; and the cases of a book.
-use Rattle.std.specs.Prelude.{ℕ, ◌≡◌, ◌+◌, ◌⊎◌, Bool, true, List as Seq, [], ◌∷◌, map, filter, Some, None, is_none, if◌then◌else◌}
+use Rattle.std.specs.Prelude.{ℕ, ◌≡◌, ◌+◌, ◌⊎◌, All, Bool, true, false, List as Seq, [], ◌∷◌, map, filter, Some, None, is_none, if◌then◌else◌}
 use Rattle.std.specs.List.{list_any, AllZip}
 use Rattle.net_types.specs.declared.arcs.Arc.{Arc}
+use Rattle.net_types.specs.declared.network.Link.{Link}
 use Rattle.net_types.specs.NetValue.{NetValue}
 use Rattle.net_types.specs.Owners.{owns}
 use Rattle.net_types.specs.PrefixValue.{PrefixValue}
@@ -16,6 +17,10 @@ use Rattle.route_desk.specs.declared.verdict.Outcome.{Outcome}
 use Rattle.route_desk.specs.Applicable.{barred, number_of}
 use Rattle.route_desk.specs.Meaning.{HoldsIfCertified}
 
+-- no link of the network is a session of BGP
+abbrev pub HasNoSession : NetValue → Type 0
+HasNoSession net = All (λ (link : Link). link.session ≡ false) net.links
+
 -- some walk of adjacencies leads from the router to an OSPF stub of the prefix
 abbrev pub HasWalk : NetValue → PrefixValue → ℕ → Type 0
 HasWalk net prefix u = (arcs : Seq Arc) × (sum : ℕ) × IsWalk net prefix [] arcs u sum
@@ -29,7 +34,8 @@ pub record Asks (net : NetValue) (property : Property) (u : ℕ) : Type 0 where
   pub applies : barred net property ≡ None
   pub router : number_of net property.router ≡ Some u
 
--- certified: its router surely has a route
+-- certified: its router surely has a route. This is the verdict of a property to reach, with no failed link; no other
+-- is asked
 pub record IsCertified (net : NetValue) (property : Property) : Type 0 where
   pub router : ℕ
   pub asks : Asks net property router

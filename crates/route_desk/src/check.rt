@@ -2,11 +2,13 @@
 
 ghost use Rattle.std.specs.Prelude.{◌≡◌, ◌≤◌, All, IfOk, Ok, Err, Some, codes, option_map, string_bytes, length};
 ghost use Rattle.net_types.specs.NetValue.{NetValue};
+ghost use Rattle.topology.specs.Meaning.{SessionsHaveSystems};
 ghost use Rattle.outside.specs.Content.{Content};
 ghost use Rattle.route_desk.specs.Book.{IsAsked};
 ghost use Rattle.route_desk.specs.Ending.{IsReport, analysed, analysed_network, check_inputs, first_speaker, inputs_of, properties_of, speaks_bgp};
 ghost use Rattle.route_desk.specs.Refusals.{no_bgp_yet, refused_line};
 ghost use Rattle.route_desk.specs.Stops.{Comes, Gives, HasCause, IsCalm, StopsAt};
+ghost use Rattle.route_desk.specs.Verdicts.{HasNoSession};
 
 use crate::answer::Answer;
 use crate::book::read_properties;
@@ -68,7 +70,9 @@ fn bgp_refused(alloc: Global, side: &str, host: &str) -> Stop
 
 // The network, unless a router of it speaks BGP.
 fn analysed(alloc: Global, side: &str, net: Net) -> Result<Net, Stop>
+    requires { SessionsHaveSystems net }
     ensures gives { Gives (analysed side.now net) result }
+    ensures quiet { IfOk result (λ net. HasNoSession net) }
     ensures calm { IsCalm result }
 {
     if let Some(host) = first_speaker(&net) {
@@ -81,6 +85,7 @@ fn analysed(alloc: Global, side: &str, net: Net) -> Result<Net, Stop>
 #[tactic(auto, unfolding(crate::specs::Ending::analysed_network))]
 fn analysed_network(alloc: Global, side: &str, files: &[SourceFile]) -> Result<Net, Stop>
     ensures gives { Gives (analysed_network side.now files.now) result }
+    ensures quiet { IfOk result (λ net. HasNoSession net) }
     ensures calm { IsCalm result }
 {
     let net = network_of(alloc, side, files)?;
@@ -110,6 +115,7 @@ fn inputs_of(
 ) -> Result<Inputs, Stop>
     ensures gives { Gives (inputs_of base.now new.now properties.now) result }
     ensures asked { IfOk result (λ inputs. All IsAsked inputs.book) }
+    ensures quiet { IfOk result (λ inputs. HasNoSession inputs.base × HasNoSession inputs.new) }
     ensures calm { IsCalm result }
 {
     let base = analysed_network(alloc, "base", base)?;
@@ -131,6 +137,7 @@ fn check_inputs<F: Shelf>(
     ensures same { F.content shelf.new ≡ F.content shelf.old }
     ensures told { (c : Content) → F.content shelf.old ≡ Some c → Gives (check_inputs c base.now new.now properties.now) result }
     ensures asked { IfOk result (λ inputs. All IsAsked inputs.book) }
+    ensures quiet { IfOk result (λ inputs. HasNoSession inputs.base × HasNoSession inputs.new) }
 {
     let base = read_folder(alloc, shelf, "base", base)?;
     let new = read_folder(alloc, shelf, "new", new)?;
@@ -140,7 +147,8 @@ fn check_inputs<F: Shelf>(
 
 // The report of the inputs.
 fn report_on(alloc: Global, inputs: &Inputs) -> Result<Answer, NoMemory>
-    requires { All IsAsked inputs.now.book }
+    requires asked { All IsAsked inputs.now.book }
+    requires quiet { HasNoSession inputs.now.base × HasNoSession inputs.now.new }
     ensures { IfOk result (λ answer. IsReport inputs.now answer.text answer.good) }
 {
     let book = inputs.book.as_slice();

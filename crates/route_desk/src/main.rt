@@ -15,6 +15,7 @@ mod check;
 mod command;
 mod folder;
 mod form;
+mod forwarding_laws;
 mod property;
 mod refusal_texts;
 mod report_text;
@@ -25,6 +26,7 @@ mod stop;
 #[cfg(test)]
 mod tests;
 mod verdict;
+mod verdict_laws;
 mod verdicts;
 
 use crate::run::run;

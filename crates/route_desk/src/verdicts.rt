@@ -7,7 +7,7 @@ ghost use Rattle.net_types.specs.Distance.{AreDistances, distance_at};
 ghost use Rattle.route_desk.specs.Applicable.{barred, number_of};
 ghost use Rattle.route_desk.specs.Book.{IsAsked};
 ghost use Rattle.route_desk.specs.Meaning.{HoldsIfCertified};
-ghost use Rattle.route_desk.specs.Verdicts.{HasSureRoute, IsOutcome, IsVerdict, Asks, applies, asked_prefixes, case_count, distinct_count};
+ghost use Rattle.route_desk.specs.Verdicts.{HasNoSession, HasSureRoute, IsOutcome, IsVerdict, Asks, applies, asked_prefixes, case_count, distinct_count};
 
 use crate::applicable::{applicable, number_of};
 use crate::property::Property;
@@ -57,7 +57,8 @@ fn verdict_at(
 
 // A verdict whose property holds where it is a certificate.
 fn sound_verdict(alloc: Global, net: &Net, property: &Property) -> Result<Verdict, NoMemory>
-    requires { IsAsked property.now }
+    requires asked { IsAsked property.now }
+    requires quiet { HasNoSession net.now }
     ensures verdict { IfOk result (λ verdict. IsVerdict net.now property.now verdict) }
     ensures holds { IfOk result (λ verdict. HoldsIfCertified net.now property.now verdict) }
 {
@@ -114,7 +115,8 @@ fn case_count(net: &Net, book: &[Property]) -> u64
 
 /// What is found of a book in a network without sessions.
 pub fn outcome_of(alloc: Global, net: &Net, book: &[Property]) -> Result<Outcome, NoMemory>
-    requires { All IsAsked book.now }
+    requires asked { All IsAsked book.now }
+    requires quiet { HasNoSession net.now }
     ensures outcome { IfOk result (λ outcome. IsOutcome net.now book.now outcome) }
     ensures long { IfOk result (λ outcome. length outcome.verdicts ≡ length book.now) }
 {

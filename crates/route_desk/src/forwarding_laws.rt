@@ -1,0 +1,62 @@
+//! What is true of forwarding and of the kinds of property, stated over definitions: each law is the
+//! contract of a function that does nothing.
+
+ghost use Rattle.route_desk.specs.ForwardingLaws.{HopsGoAlongArcs, IsolatedAreStuck, IsolatedReachNobody, LearnedGoBack, LearnedGoOneWay, LearnedGoToSenders, OthersGoByHops, OwnersDeliver, OwnersEndWalks, OwnersGoAround, OwnersReach, ReachByOspf, ReachEndsAtOwners, ReachGoesOn, ReachIsNoLoop, SoleOwnersAreWaypoints, StuckAreIsolated, WalksGoOn, WaypointsCount, WaypointsGoOn};
+ghost use Rattle.route_desk.specs.QuietLaws.{LocalRoutesAreStable, NothingIsLearned, SomeAreStable};
+
+/// An owner delivers: it forwards to nobody, so a walk from it has no step, and it reaches.
+pub fn law_of_owners()
+    ensures deliver { OwnersDeliver }
+    ensures end { OwnersEndWalks }
+    ensures reach { OwnersReach }
+{}
+
+/// A learned label leads to its sender alone; at a stable labelling this is the router over which it came.
+pub fn law_of_learned_labels()
+    ensures sender { LearnedGoToSenders }
+    ensures one { LearnedGoOneWay }
+    ensures back { LearnedGoBack }
+{}
+
+/// Without a learned label traffic goes to the next hops of OSPF.
+pub fn law_of_next_hops()
+    ensures hops { OthersGoByHops }
+    ensures arcs { HopsGoAlongArcs }
+{}
+
+/// A walk goes on from its last router.
+pub fn law_of_walks()
+    ensures { WalksGoOn }
+{}
+
+/// A router reaches where each router to which it forwards does: so where its traffic is stuck nowhere and
+/// never goes round.
+pub fn law_of_reach()
+    ensures next { ReachGoesOn }
+    ensures loops { ReachIsNoLoop }
+    ensures ends { ReachEndsAtOwners }
+    ensures ospf { ReachByOspf }
+{}
+
+/// The isolated routers are those that are no owners and forward to nobody, and none of them reaches.
+pub fn law_of_isolation()
+    ensures stuck { IsolatedAreStuck }
+    ensures isolated { StuckAreIsolated }
+    ensures reach { IsolatedReachNobody }
+{}
+
+/// In a network without sessions the labelling of local routes is the one stable labelling, and nothing is learned.
+pub fn law_of_quiet_networks()
+    ensures labels { LocalRoutesAreStable }
+    ensures some { SomeAreStable }
+    ensures learned { NothingIsLearned }
+{}
+
+/// Traffic goes through the router where it begins, from an owner through no other, else through those through
+/// which it goes from each next router.
+pub fn law_of_waypoints()
+    ensures itself { WaypointsCount }
+    ensures owners { OwnersGoAround }
+    ensures sole { SoleOwnersAreWaypoints }
+    ensures next { WaypointsGoOn }
+{}
