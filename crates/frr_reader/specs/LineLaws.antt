@@ -57,7 +57,7 @@ abbrev pub IsStatement : List (List ℕ) → Type 0
 IsStatement [] = ⊥
 IsStatement (word ∷ more) = begins_comment word ≡ false
 
--- what the words of a line do, once it counts as the line before the next
+-- what the words of a line do to the state, which has the line's number
 abbrev pub words_at : State → LineValue → Result State Cause
 words_at s line = by_words (record s { number = line.number }) (words line.text)
 

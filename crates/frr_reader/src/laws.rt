@@ -4,9 +4,9 @@
 ghost use Rattle.frr_reader.specs.LineLaws.{EachLineIsPlaced, EachLineHasItsCause, EachIsTakenInnermost, SameMapHeads};
 ghost use Rattle.frr_reader.specs.StateLaws.{OpensTheNamedInterface, ChangesTheOpenInterface, LosesNoEntry, OpensWhatItBegins, ChangesTheOpenEntry};
 
-/// Lines are numbered one after another, and the last reaches to the file's end; each cause of a line by itself;
-/// a line is taken in the innermost mode that has a row with its head; and the
-/// heads of the lines of maps are those that `frr_policy` reads.
+/// Lines are numbered one after another, and the last reaches to the file's end; each cause of a line by
+/// itself; a line is taken in the innermost mode that has a row with its head; and the heads of the lines of
+/// maps are those that `frr_policy` reads.
 pub fn line_laws()
     ensures places { EachLineIsPlaced }
     ensures causes { EachLineHasItsCause }

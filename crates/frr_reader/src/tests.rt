@@ -100,19 +100,30 @@ fn long_file(rt: &HostRuntime, comments: usize, empty: usize) -> Result<String, 
     Ok(text)
 }
 
-// A line's first byte, its length, and its refusal; behind the first byte stand blanks and an `x`.
+// What a line begins with, how many blanks stand before its last `x`, and its refusal.
 static LENGTHS: [(&str, usize, Option<ReadRefusal>); 4] = [
-    ("!", 512, None),
-    ("!", 513, Some(ReadRefusal::LineTooLong(2))),
-    ("x", 513, Some(ReadRefusal::LineTooLong(2))),
-    ("\u{1}", 601, Some(ReadRefusal::NotText(2))),
+    ("!", 510, None),
+    ("!", 511, Some(ReadRefusal::LineTooLong(2))),
+    ("x", 511, Some(ReadRefusal::LineTooLong(2))),
+    ("\u{1}", 599, Some(ReadRefusal::NotText(2))),
 ];
+
+// A file of a host's name and a line of these bytes, blanks, an `x` and CR LF.
+fn long_line(rt: &HostRuntime, first: &str, blanks: usize) -> Result<String, Fail> {
+    let mut text = String::from_str(rt.alloc(), "hostname a\n")?;
+    text.push_str(first)?;
+    for _ in 0..blanks {
+        text.push_str(" ")?;
+    }
+    text.push_str("x\r\n")?;
+    Ok(text)
+}
 
 #[test]
 fn limits(rt: HostRuntime) -> Result<(), Fail> {
-    for (first, len, refusal) in LENGTHS {
-        let line = format!(in rt.alloc(); "hostname a\n{first}{:>len$}\r\n", "x", len = len - 1)?;
-        assert_eq!(rt; read(&rt, line.as_str()).err(), refusal, "{first}{len}");
+    for (first, blanks, refusal) in &LENGTHS {
+        let text = long_line(&rt, first, *blanks)?;
+        assert_eq!(rt; read(&rt, text.as_str()).err(), *refusal, "{first}{blanks}");
     }
     for (empty, refused) in [(1, None), (2, Some(131_069))] {
         let text = long_file(&rt, 131_066, empty)?;
