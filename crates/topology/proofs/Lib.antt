@@ -6,6 +6,7 @@ pub mod MemberLemmas
 pub mod PortLemmas
 pub mod SetLemmas
 pub mod ResolveLemmas
+pub mod ResolvedLemmas
 pub mod SideLemmas
 pub mod LinkLemmas
 pub mod RouterLemmas

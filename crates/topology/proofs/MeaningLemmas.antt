@@ -33,8 +33,11 @@ use Rattle.topology.proofs.RisingLemmas.{AllByRecursion-weaker, All-filter_map, 
 use Rattle.topology.proofs.OrderLaws.{prefix_order, text_order, number_order, number-equal}
 use Rattle.topology.proofs.LinkLemmas.{subnets-links_of, subnet-link_of}
 use Rattle.topology.proofs.RouterLemmas.{router-at}
+use Rattle.topology.proofs.SideLemmas.{at-place}
 use Rattle.topology.proofs.SessionLemmas.{sessions-links_of, sides-links_of, SessionsHaveSystems-net_of}
-use Rattle.topology.proofs.SetLemmas.{IsSetOf-set_of}
+use Rattle.net_types.specs.ConfigFacts.{IsConfig}
+use Rattle.topology.proofs.ResolvedLemmas.{IsRedistribution-connected, IsRedistribution-ospf, community_lists-alike, maps-alike}
+use Rattle.topology.proofs.NetLemmas.{configs-are}
 use Rattle.topology.proofs.IdleLemmas.{AreNotices-notices}
 use Rattle.topology.proofs.TwinLemmas.{same_text-equal}
 use Rattle.topology.proofs.MemberLemmas.{In, Contains-from_In, In-from_Contains, In-map, In-filter, from-filter, In-filter_map, In-ascending, In-there, any-from, from-map, IsAscending-ascending}
@@ -223,38 +226,43 @@ AreOwned-owned_by of networks = record {
   from_stubs = all-owned of networks (λ (entry : Owned). (entry.stub ≡ true) ↔ Contains (map (λ port. port.subnet) of) entry.prefix) (λ prefix. among-stubs of prefix);
 }
 
-IsRouterOf-at : (configs : List RouterConfig) (k : ℕ) (router : Router) → slice_get (routers_from (ports configs) (communities configs) 0 (in_order configs)) k ≡ Some router → IsRouterOf configs k router
-IsRouterOf-at configs k router e = go (slice_get (in_order configs) k) refl (sym (router-at (ports configs) (communities configs) 0 (in_order configs) k) ∙ e) where
+IsRouterOf-router_of : (configs : List RouterConfig) (k : ℕ) (config : RouterConfig) → slice_get (in_order configs) k ≡ Some config → IsConfig config → IsRouterOf configs (communities configs) k (router_of (ports configs) (communities configs) k config)
+IsRouterOf-router_of configs k config at c = record {
+  config = config;
+  config_at = at;
+  host = refl;
+  asn = refl;
+  owned = AreOwned-owned_by (stubs (ports configs) k) (networks_of config);
+  connected = IsRedistribution-connected config config.bgp c.bgp;
+  ospf = IsRedistribution-ospf config config.bgp c.bgp;
+  prefix_lists = refl;
+  community_lists = community_lists-alike (communities configs) config.community_lists;
+  maps = maps-alike (communities configs) config c.maps;
+}
+
+IsRouterOf-at : (configs : List RouterConfig) → All IsConfig configs → (k : ℕ) (router : Router) → slice_get (routers_from (ports configs) (communities configs) 0 (in_order configs)) k ≡ Some router → IsRouterOf configs (communities configs) k router
+IsRouterOf-at configs all k router e = go (slice_get (in_order configs) k) refl (at-place IsConfig (in_order configs) k (configs-are configs all)) (sym (router-at (ports configs) (communities configs) 0 (in_order configs) k) ∙ e) where
   none : (r : Router) → None ≡ Some r → ⊥
   none r e = cc
 
   same : (a b : Router) → Some a ≡ Some b → a ≡ b
   same a b e = cc
 
-  owned : (config : RouterConfig) (n : ℕ) → n ≡ k → AreOwned (stubs (ports configs) k) (networks_of config) (owned_by (stubs (ports configs) n) (networks_of config))
-  owned config n f = rw f (AreOwned-owned_by (stubs (ports configs) k) (networks_of config))
+  go : (o : Option RouterConfig) → slice_get (in_order configs) k ≡ o → IfSome o IsConfig → option_map (λ config. router_of (ports configs) (communities configs) (0 + k) config) o ≡ Some router → IsRouterOf configs (communities configs) k router
+  go None f h g = absurd (none router g)
+  go (Some config) f h g =
+      let P : Router → Type 0 = λ r. IsRouterOf configs (communities configs) k r in
+      let is = ap (λ (n : ℕ). router_of (ports configs) (communities configs) n config) (sym (zero-add k)) ∙ same (router_of (ports configs) (communities configs) (0 + k) config) router g in
+      subst P is (IsRouterOf-router_of configs k config f h)
 
-  go : (o : Option RouterConfig) → slice_get (in_order configs) k ≡ o → option_map (λ config. router_of (ports configs) (communities configs) (0 + k) config) o ≡ Some router → IsRouterOf configs k router
-  go None f g = absurd (none router g)
-  go (Some config) f g =
-      let is = same (router_of (ports configs) (communities configs) (0 + k) config) router g in
-      record {
-        config = config;
-        config_at = f;
-        host = sym (ap (λ (r : Router). r.host) is);
-        asn = sym (ap (λ (r : Router). r.asn) is);
-        owned = (let P : Router → Type 0 = λ r. AreOwned (stubs (ports configs) k) (networks_of config) r.owned in subst P is (owned config (0 + k) (zero-add k)));
-      }
-
-pub IsNetworkOf-net_of : (configs : List RouterConfig) → IsNetworkOf configs (net_of configs)
-IsNetworkOf-net_of configs = record {
+pub IsNetworkOf-net_of : (configs : List RouterConfig) → All IsConfig configs → IsNetworkOf configs (net_of configs)
+IsNetworkOf-net_of configs all = record {
   hosts = rw (hosts-routers_from (ports configs) (communities configs) 0 (in_order configs), hosts-in_order configs) (IsAscending-ascending same_text text_before text_order same_text-equal (map (λ (config : RouterConfig). config.host) configs));
-  routers = IsRouterOf-at configs;
+  routers = IsRouterOf-at configs all;
   links = record { rise = subnets-links_of (in_order configs) (ports configs); each = each-link (in_order configs) (ports configs); complete = complete-links (in_order configs) (ports configs) };
   sessions = sessions-links_of (in_order configs) (wires (ports configs));
   communities = IsAscending-ascending nat_eq nat_lt number_order number-equal (no_export ∷ no_advertise ∷ named_values configs);
   sides = sides-links_of (in_order configs) (wires (ports configs));
-  sets = IsSetOf-set_of (communities configs);
   notices = AreNotices-notices (in_order configs) (links_of (in_order configs) (wires (ports configs)));
 }
 
@@ -270,8 +278,8 @@ of-answer configs P tried (Ok net) h e = subst P (value tried e) h where
   value (Some r ∷ rs) e = absurd (false≢true cc)
   value (None ∷ rs) e = value rs e
 
-pub IsNetworkOf-answer : (configs : List RouterConfig) (tried : List (Option NetRefusal)) (answer : Result NetValue NetRefusal) → Answers (unless tried (net_of configs)) answer → IfOk answer (λ net. IsNetworkOf configs net)
-IsNetworkOf-answer configs tried answer e = of-answer configs (λ net. IsNetworkOf configs net) tried answer (IsNetworkOf-net_of configs) e
+pub IsNetworkOf-answer : (configs : List RouterConfig) → All IsConfig configs → (tried : List (Option NetRefusal)) (answer : Result NetValue NetRefusal) → Answers (unless tried (net_of configs)) answer → IfOk answer (λ net. IsNetworkOf configs net)
+IsNetworkOf-answer configs all tried answer e = of-answer configs (λ net. IsNetworkOf configs net) tried answer (IsNetworkOf-net_of configs all) e
 
 pub SessionsHaveSystems-answer : (configs : List RouterConfig) (tried : List (Option NetRefusal)) (answer : Result NetValue NetRefusal) → Answers (unless tried (net_of configs)) answer → IfOk answer (λ net. SessionsHaveSystems net)
 SessionsHaveSystems-answer configs tried answer e = of-answer configs (λ net. SessionsHaveSystems net) tried answer (SessionsHaveSystems-net_of configs) e

@@ -25,7 +25,7 @@ use Rattle.topology.proofs.LinkLemmas.{IsNumbered-wires, IsLink-links_of, subnet
 use Rattle.topology.proofs.RouterLemmas.{IsRouter-routers_from, length-routers_from, hosts-routers_from, systems-routers_from, maps-routers_from}
 use Rattle.topology.proofs.NoticeLemmas.{IsNotice-notices, notices-rise}
 
-configs-are : (configs : List RouterConfig) → All IsConfig configs → AllByRecursion IsConfig (in_order configs)
+pub configs-are : (configs : List RouterConfig) → All IsConfig configs → AllByRecursion IsConfig (in_order configs)
 configs-are configs a = All-ascending IsConfig same_host host_before configs (recursion_from_All IsConfig configs a)
 
 ports-are : (configs : List RouterConfig) → All IsConfig configs → AllByRecursion (IsPort (length (in_order configs))) (ports configs)

@@ -5,7 +5,12 @@ use Rattle.net_types.specs.declared.config.SourceFile.{SourceFile}
 use Rattle.net_types.specs.declared.refusals.ReadRefusal.{ReadRefusal}
 use Rattle.net_types.specs.declared.refusals.BundleRefusal.{BundleRefusal}
 use Rattle.frr_reader.specs.Reading.{reading}
-use Rattle.topology.specs.Bundle.{before, behind, configs_of}
+use Rattle.topology.specs.Bundle.{before, configs_of}
+
+-- configurations behind others
+abbrev pub behind : List RouterConfig → Result (List RouterConfig) BundleRefusal → Result (List RouterConfig) BundleRefusal
+behind done (Ok configs) = Ok (done ++ configs)
+behind done (Err refusal) = Err refusal
 
 behind-before : (at : ℕ) (done : List RouterConfig) (config : RouterConfig) (read : Result RouterConfig ReadRefusal) (later : Result (List RouterConfig) BundleRefusal) → read ≡ Ok config → behind (done ++ config ∷ []) later ≡ behind done (before at read later)
 behind-before at done config read (Ok configs) e = rw e (ap (λ xs. Ok xs) (append_assoc done (config ∷ []) configs))

@@ -1,5 +1,5 @@
 -- The refusals of the whole: the least subnet whose group is refused, and the counts.
-use Rattle.std.proofs.Common.{ℕ, ◌≡◌, ◌<◌, ◌==◌, ◌&&◌, ◌||◌, inl, inr, ⊎_elim, Bool, true, false, cond, nat_lt, List, [], ◌∷◌, map, length, refl, ap, sym, subst, ◌∙◌, arith, Contains, Option, Some, None, MatchOption}
+use Rattle.std.proofs.Common.{ℕ, ◌≡◌, ◌<◌, ◌≤◌, ◌==◌, ◌&&◌, ◌||◌, inl, inr, ⊎_elim, Bool, true, false, cond, nat_lt, List, [], ◌∷◌, map, length, refl, ap, sym, subst, ◌∙◌, arith, Contains, Option, Some, None, MatchOption}
 use Rattle.std.specs.List.{filter, find}
 use Rattle.std.specs.Option.{option_map}
 use Rattle.std.specs.Prelude.{Result, Ok, Err}
@@ -71,21 +71,29 @@ IsLeast-shared_subnet all = go (shared_subnet all) (find-least (λ subnet. is_sh
   go None h = λ subnet r. false≢true (sym (h subnet (refused-there all subnet r)) ∙ r.shared)
   go (Some subnet) h = record { refused = IsRefused-from all subnet h.0 h.1; least = λ other r. h.2 other (refused-there all other r) r.shared }
 
--- the answer by what was found and counted
-named : (configs : List RouterConfig) (o : Option PrefixValue) (b c d : Bool) → MatchOption o (NoneRefused (ports configs)) (λ subnet. IsLeastRefused (ports configs) subnet) → (b ≡ true → 64 < length (wires (ports configs))) → (c ≡ true → 64 < length (communities configs)) → (d ≡ true → 64 < length configs) → NamesWhole configs (unless (option_map (λ prefix. SharedSubnet prefix) o ∷ cond b (Some (TooManyLinks (length (wires (ports configs))))) None ∷ cond c (Some (TooManyCommunities (length (communities configs)))) None ∷ cond d (Some (TooManyRouters (length configs))) None ∷ []) (net_of configs))
-named configs (Some subnet) b c d l f g h = l
-named configs None true c d l f g h = (l, refl, f refl)
-named configs None false true d l f g h = (l, refl, g refl)
-named configs None false false true l f g h = (l, refl, h refl)
-named configs None false false false l f g h = l
+-- what the test of a count says
+abbrev Counts : ℕ → Bool → Type 0
+Counts n true = 64 < n
+Counts n false = n ≤ 64
 
-over : (n : ℕ) → nat_lt 64 n ≡ true → 64 < n
-over n h = grind (arith, nat_tests)
+counted : (n : ℕ) → Counts n (nat_lt 64 n)
+counted n = go (nat_lt 64 n) refl where
+  go : (b : Bool) → nat_lt 64 n ≡ b → Counts n b
+  go true h = grind (arith, nat_tests)
+  go false h = grind (arith, nat_tests)
+
+-- the answer by what was found and counted
+named : (configs : List RouterConfig) (o : Option PrefixValue) (b c d : Bool) → MatchOption o (NoneRefused (ports configs)) (λ subnet. IsLeastRefused (ports configs) subnet) → Counts (length (wires (ports configs))) b → Counts (length (communities configs)) c → Counts (length configs) d → NamesWhole configs (unless (option_map (λ prefix. SharedSubnet prefix) o ∷ cond b (Some (TooManyLinks (length (wires (ports configs))))) None ∷ cond c (Some (TooManyCommunities (length (communities configs)))) None ∷ cond d (Some (TooManyRouters (length configs))) None ∷ []) (net_of configs))
+named configs (Some subnet) b c d l f g h = l
+named configs None true c d l f g h = (l, refl, f)
+named configs None false true d l f g h = (l, f, refl, g)
+named configs None false false true l f g h = (l, f, g, refl, h)
+named configs None false false false l f g h = (l, f, g, h)
 
 NamesWhole-unless : (configs : List RouterConfig) → NamesWhole configs (unless (whole_refusals configs) (net_of configs))
 NamesWhole-unless configs =
     named configs (shared_subnet (ports configs)) (nat_lt 64 (length (wires (ports configs)))) (nat_lt 64 (length (communities configs))) (nat_lt 64 (length configs)) (IsLeast-shared_subnet (ports configs))
-    (over (length (wires (ports configs)))) (over (length (communities configs))) (over (length configs))
+    (counted (length (wires (ports configs)))) (counted (length (communities configs))) (counted (length configs))
 
 pub NamesWhole-answer : (configs : List RouterConfig) (answer : Result NetValue NetRefusal) → Answers (unless (whole_refusals configs) (net_of configs)) answer → NamesWhole configs answer
 NamesWhole-answer configs (Ok net) e = let P : Result NetValue NetRefusal → Type 0 = λ r. NamesWhole configs r in subst P e (NamesWhole-unless configs)

@@ -1,5 +1,5 @@
 -- The network of the files of a folder, or their first refusal.
-use Rattle.std.specs.Prelude.{ℕ, ◌≡◌, ◌+◌, ◌-◌, ◌^◌, ◌++◌, min, nat_lt, List, [], ◌∷◌, length, sum_by, Result, Ok, Err, if◌then◌else◌}
+use Rattle.std.specs.Prelude.{ℕ, ◌≡◌, ◌+◌, ◌-◌, ◌^◌, min, nat_lt, List, [], ◌∷◌, length, sum_by, Result, Ok, Err, if◌then◌else◌}
 use Rattle.net_types.specs.declared.config.RouterConfig.{RouterConfig}
 use Rattle.net_types.specs.declared.config.SourceFile.{SourceFile}
 use Rattle.net_types.specs.declared.refusals.NetRefusal.{NetRefusal}
@@ -55,8 +55,3 @@ abbrev pub BundleAnswers : {A : Type 0} → Result A BundleRefusal → Result A 
 BundleAnswers value (Ok found) = value ≡ Ok found
 BundleAnswers value (Err NoMemory) = Unit {0}
 BundleAnswers value (Err refusal) = value ≡ Err refusal
-
--- configurations behind others
-abbrev pub behind : List RouterConfig → Result (List RouterConfig) BundleRefusal → Result (List RouterConfig) BundleRefusal
-behind done (Ok configs) = Ok (done ++ configs)
-behind done (Err refusal) = Err refusal

@@ -5,6 +5,7 @@ pub mod Groups
 pub mod Owning
 pub mod Communities
 pub mod Resolving
+pub mod Resolved
 pub mod Sessions
 pub mod Links
 pub mod Notices
@@ -12,3 +13,4 @@ pub mod Routers
 pub mod Network
 pub mod Bundle
 pub mod Meaning
+pub mod Files

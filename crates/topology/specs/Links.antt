@@ -17,7 +17,7 @@ abbrev pub joined_by : Wire → Option Side → Option Side → Link
 joined_by wire (Some low) (Some high) = record { subnet = wire.subnet; low = end_of wire.low low; high = end_of wire.high high; session = true; adjacency = wire.low.ospf && wire.high.ospf }
 joined_by wire _ _ = record { subnet = wire.subnet; low = end_of wire.low no_side; high = end_of wire.high no_side; session = false; adjacency = wire.low.ospf && wire.high.ospf }
 
--- the link of two interfaces of routers that have these configurations, by number
+-- the link of two interfaces; the configurations are in order of the router numbers
 abbrev pub link_of : List RouterConfig → Wire → Link
 link_of configs wire = joined_by wire (side_at configs wire.low wire.high) (side_at configs wire.high wire.low)
 

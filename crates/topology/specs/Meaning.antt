@@ -1,5 +1,6 @@
 -- What the refusals and the lists of a network mean, as relations. The answers of `build` meet them.
 use Rattle.std.specs.Prelude.{ℕ, ◌≡◌, ◌<◌, ◌≤◌, ◌⊎◌, ◌↔◌, ◌++◌, nat_lt, Bool, true, false, List, [], ◌∷◌, Option, Some, None, All, AllPairs, Contains, length, Result, Ok, Err, map, slice_get}
+use Rattle.std.specs.Option.{option_map_or}
 use Rattle.net_types.specs.declared.config.RouterConfig.{RouterConfig}
 use Rattle.net_types.specs.declared.config.Interface.{Interface}
 use Rattle.net_types.specs.declared.network.Router.{Router}
@@ -11,6 +12,7 @@ use Rattle.net_types.specs.declared.network.End.{End}
 use Rattle.net_types.specs.declared.network.Link.{Link}
 use Rattle.net_types.specs.declared.network.Notice.{Notice}
 use Rattle.net_types.specs.declared.network.Policy.TheVariants.{Closed}
+use Rattle.net_types.specs.declared.config.Redistribute.TheVariants.{No}
 use Rattle.net_types.specs.declared.network.Owned.{Owned}
 use Rattle.net_types.specs.PrefixValue.{PrefixValue}
 use Rattle.net_types.specs.Prefixes.{prefix_before}
@@ -21,7 +23,8 @@ use Rattle.topology.specs.declared.interfaces.Port.{Port}
 use Rattle.topology.specs.Live.{asn_of, in_order, link_address, ports}
 use Rattle.topology.specs.Groups.{group, is_shared, kind_at, wires}
 use Rattle.topology.specs.Owning.{stubs, stub_cost, networks_of}
-use Rattle.topology.specs.Communities.{communities, named_values, set_of, IsSetOf}
+use Rattle.topology.specs.Communities.{communities, named_values}
+use Rattle.topology.specs.Resolved.{AreAlike, IsRedistribution, IsCommunityListOf, IsMapOf}
 use Rattle.topology.specs.Sessions.{policy_of}
 use Rattle.topology.specs.Links.{link_of}
 
@@ -194,24 +197,29 @@ pub record AreOwned (stubs : List Port) (networks : List PrefixValue) (owned : L
   pub from_networks : All (λ (entry : Owned). (entry.network ≡ true) ↔ Contains networks entry.prefix) owned
   pub from_stubs : All (λ (entry : Owned). (entry.stub ≡ true) ↔ Contains (map (λ port. port.subnet) stubs) entry.prefix) owned
 
--- the router of this number: its configuration, its AS number, and what it owns
-pub record IsRouterOf (configs : List RouterConfig) (k : ℕ) (router : Router) : Type 0 where
+-- the router of this number: its configuration, its AS number, what it owns, what it redistributes, and its
+-- lists and maps, with the numbers of these communities
+pub record IsRouterOf (configs : List RouterConfig) (communities : List ℕ) (k : ℕ) (router : Router) : Type 0 where
   pub config : RouterConfig
   pub config_at : slice_get (in_order configs) k ≡ Some config
   pub host : router.host ≡ config.host
   pub asn : router.asn ≡ asn_of config
   pub owned : AreOwned (stubs (ports configs) k) (networks_of config) router.owned
+  pub connected : IsRedistribution config.maps (option_map_or (λ (bgp : BgpConfig). bgp.connected) config.bgp No) router.connected
+  pub ospf : IsRedistribution config.maps (option_map_or (λ (bgp : BgpConfig). bgp.ospf) config.bgp No) router.ospf
+  pub prefix_lists : router.prefix_lists ≡ config.prefix_lists
+  pub community_lists : AreAlike (IsCommunityListOf communities) config.community_lists router.community_lists
+  pub maps : AreAlike (IsMapOf communities config) config.maps router.maps
 
 -- the network of configurations: its routers by their hosts, its links, which of them are sessions with what
--- policies, what each router owns, its communities with the two of RFC 1997 and what sets of them are, and its notices
+-- policies, its communities with the two of RFC 1997, and its notices
 pub record IsNetworkOf (configs : List RouterConfig) (net : NetValue) : Type 0 where
   pub hosts : IsAscending text_before (map (λ (config : RouterConfig). config.host) configs) (map (λ (router : Router). router.host) net.routers)
-  pub routers : (k : ℕ) (router : Router) → slice_get net.routers k ≡ Some router → IsRouterOf configs k router
+  pub routers : (k : ℕ) (router : Router) → slice_get net.routers k ≡ Some router → IsRouterOf configs net.communities k router
   pub links : AreLinks (in_order configs) (ports configs) net.links
   pub sessions : All (IsSessionByLines (in_order configs)) net.links
   pub sides : All (HasSides (in_order configs)) net.links
   pub communities : IsAscending nat_lt (no_export ∷ no_advertise ∷ named_values configs) net.communities
-  pub sets : (values : List ℕ) → IsSetOf net.communities values (set_of net.communities values)
   pub notices : AreNotices (in_order configs) net.links net.notices
 
 -- the router at the end of a link has an AS number
@@ -239,12 +247,20 @@ pub record IsLeastRefused (ports : List Port) (subnet : PrefixValue) : Type 0 wh
 abbrev pub NoneRefused : List Port → Type 0
 NoneRefused ports = (subnet : PrefixValue) → IsRefused ports subnet → ⊥
 
+-- at most 64 links, at most 64 communities
+abbrev pub HasFewLinks : List RouterConfig → Type 0
+HasFewLinks configs = length (wires (ports configs)) ≤ 64
+
+abbrev pub HasFewCommunities : List RouterConfig → Type 0
+HasFewCommunities configs = length (communities configs) ≤ 64
+
 -- a refusal for a subnet names the least; a network, and a refusal that is tried later, says that no group
--- is refused; a refusal for a number names what was counted, which is more than 64
+-- is refused; a refusal for a number names what was counted, which is more than 64: links first, then
+-- communities, then routers
 abbrev pub NamesWhole : List RouterConfig → Result NetValue NetRefusal → Type 0
-NamesWhole configs (Ok net) = NoneRefused (ports configs)
+NamesWhole configs (Ok net) = NoneRefused (ports configs) × HasFewLinks configs × HasFewCommunities configs × (length configs ≤ 64)
 NamesWhole configs (Err (SharedSubnet subnet)) = IsLeastRefused (ports configs) subnet
 NamesWhole configs (Err (TooManyLinks n)) = NoneRefused (ports configs) × (n ≡ length (wires (ports configs))) × (64 < n)
-NamesWhole configs (Err (TooManyCommunities n)) = NoneRefused (ports configs) × (n ≡ length (communities configs)) × (64 < n)
-NamesWhole configs (Err (TooManyRouters n)) = NoneRefused (ports configs) × (n ≡ length configs) × (64 < n)
+NamesWhole configs (Err (TooManyCommunities n)) = NoneRefused (ports configs) × HasFewLinks configs × (n ≡ length (communities configs)) × (64 < n)
+NamesWhole configs (Err (TooManyRouters n)) = NoneRefused (ports configs) × HasFewLinks configs × HasFewCommunities configs × (n ≡ length configs) × (64 < n)
 NamesWhole configs _ = Unit {0}

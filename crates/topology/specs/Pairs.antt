@@ -2,7 +2,7 @@
 use Rattle.std.specs.Prelude.{ℕ, ◌+◌, Bool, false, ◌||◌, List, [], ◌∷◌, Option, Some, None, option_map, position, if◌then◌else◌}
 use Rattle.std.specs.List.{list_any}
 
--- how far from an item its first partner stands: itself where it meets itself, else among those behind it
+-- how far behind an item the first stands that it meets: itself where it meets itself, else among those behind it
 abbrev pub partner : {A : Type 0} → (A → Bool) → (A → A → Bool) → A → List A → Option ℕ
 partner itself meets x xs = if itself x then Some 0 else option_map (λ k. k + 1) (position (λ y. meets x y) xs)
 

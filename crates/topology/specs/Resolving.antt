@@ -40,8 +40,8 @@ net_set_community communities (SetCommunity.Replace values) = NetSetCommunity.Re
 net_set_community communities (SetCommunity.Add values) = NetSetCommunity.Add (set_of communities values)
 net_set_community communities SetCommunity.Clear = NetSetCommunity.Clear
 
--- the sets of an entry, of which this is done with the communities; what is prepended is the router's own
--- AS, so that its count says all
+-- the sets of an entry; `community` is its `set community`, already with numbers; what is prepended is the
+-- router's own AS, so that its count says all
 abbrev pub net_sets : NetSetCommunity → RouterConfig → Sets → NetSets
 net_sets community config sets = record {
   weight = sets.weight;

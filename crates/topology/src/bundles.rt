@@ -5,6 +5,7 @@ ghost use Rattle.net_types.specs.ConfigFacts.{IsConfig};
 ghost use Rattle.frr_reader.specs.Reading.{reading, Answers};
 ghost use Rattle.topology.specs.Meaning.{SessionsHaveSystems};
 ghost use Rattle.topology.specs.Network.{network_of};
+ghost use Rattle.topology.specs.Files.{IsNetAnswer};
 ghost use Rattle.topology.specs.Bundle.{bytes_of, named, configs_of, in_net, bundle_of, BundleAnswers};
 
 use crate::networks::build;
@@ -75,6 +76,7 @@ fn configs_of(alloc: Global, files: &[SourceFile]) -> Result<List<RouterConfig>,
 fn net_of(alloc: Global, configs: &[RouterConfig]) -> Result<Net, BundleRefusal>
     requires { All IsConfig configs.now }
     ensures exact { BundleAnswers (in_net (network_of configs.now)) result }
+    ensures meaning { IsNetAnswer configs.now result }
     ensures sessions { IfOk result (λ net. SessionsHaveSystems net) }
 {
     match build(alloc, configs) {

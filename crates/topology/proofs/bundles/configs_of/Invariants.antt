@@ -1,6 +1,7 @@
 use Rattle.std.proofs.Common.{◌≡◌, drop, All}
 use Rattle.net_types.specs.ConfigFacts.{IsConfig}
-use Rattle.topology.specs.Bundle.{behind, configs_of}
+use Rattle.topology.specs.Bundle.{configs_of}
+use Rattle.topology.proofs.ReadLemmas.{behind}
 use Rattle.topology.proofs.bundles.configs_of.Given as goal
 
 abbrev pub invariant-loop-at : goal.invariant-loop-at

@@ -29,7 +29,7 @@ returns-clause-least_pair c =
     c.whole.ensures
 
 pub returns-clause-network : goal.returns-clause-network
-returns-clause-network c = IsNetworkOf-answer c.args.configs.now (whole_refusals c.args.configs.now) c.whole.result c.whole.ensures
+returns-clause-network c = IsNetworkOf-answer c.args.configs.now c.requires (whole_refusals c.args.configs.now) c.whole.result c.whole.ensures
 
 pub returns-clause-sessions : goal.returns-clause-sessions
 returns-clause-sessions c = SessionsHaveSystems-answer c.args.configs.now (whole_refusals c.args.configs.now) c.whole.result c.whole.ensures
