@@ -1,5 +1,5 @@
 -- What the tables of an array give together, said by their places.
-use Rattle.std.specs.Prelude.{ℕ, zero, suc, ◌≡◌, ◌<◌, ◌+◌, List as Seq, Option, Some, None, option_and_then, Result, Ok, Err, slice_get}
+use Rattle.std.specs.Prelude.{ℕ, zero, suc, ◌≡◌, ◌<◌, ◌+◌, List as Seq, Option, Some, None, option_and_then, Ok, Err, slice_get}
 use Rattle.toml.specs.Data.{Data, Items, no_items, item, Members, as_table}
 use Rattle.net_types.specs.declared.refusals.FormRefusal.{FormRefusal}
 use Rattle.net_types.specs.declared.refusals.FormRefusal.TheVariants.{BadField}
