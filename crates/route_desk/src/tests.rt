@@ -10,8 +10,11 @@ mod folders;
 mod limits;
 mod memory;
 mod networks;
+mod properties;
 mod refusals;
+mod reports;
 mod stability;
+mod steps;
 mod texts;
 
 use folders::{LINE, LINE_AMONG_OTHERS, LINE_REPORT, PROPERTIES};
@@ -108,8 +111,10 @@ fn line_of_three(rt: HostRuntime) {
 fn usage(rt: HostRuntime) {
     let usage =
         "usage: check BASE NEW PROPS [WORKERS] | stable BUNDLE LABELS | serve DB PORT COUNT USERS [WORKERS] | gen N [WORKERS]\n";
-    let cases: [&[&str]; 8] = [
+    let cases: [&[&str]; 10] = [
         &[],
+        &["check", "old", "new", "props", "1"],
+        &["stable", "net", "labels", "1"],
         &["check", "old", "-new", "props"],
         &["stable", "net"],
         &["stable", "net", "-labels"],

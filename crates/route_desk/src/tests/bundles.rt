@@ -1,5 +1,6 @@
 //! The networks of whole bundles: their links, sessions, owners and notices.
 
+use super::folders::{LINE, OVERLAPPING};
 use super::networks::{LOCAL_OR_LEARNED, LOOP, NONE_STABLE, TWO_STABLE};
 use super::{CHECK, File, ending_of, ends, files_of};
 use crate::bundle::network_of;
@@ -8,22 +9,6 @@ use crate::report_text::host_of;
 use net_types::{Link, Net, NoMemory, Notice, Owned, Router, address_text, prefix_text};
 use outside::MemShelf;
 use std::alloc::Global;
-
-// Three routers in a line.
-const THREE_IN_A_LINE: [File<'static>; 3] = [
-    (
-        "net/r1.conf",
-        "hostname r1\ninterface eth0\n ip address 10.0.0.1/30\n ip ospf area 0\nrouter ospf\n",
-    ),
-    (
-        "net/r2.conf",
-        "hostname r2\ninterface eth0\n ip address 10.0.0.2/30\n ip ospf area 0\ninterface eth1\n ip address 10.0.1.1/30\n ip ospf area 0\nrouter ospf\n",
-    ),
-    (
-        "net/r3.conf",
-        "hostname r3\ninterface eth0\n ip address 10.0.1.2/30\n ip ospf area 0\ninterface lo\n ip address 10.9.0.3/32\n ip ospf area 0\nrouter ospf\n",
-    ),
-];
 
 // Three routers in a triangle.
 const TRIANGLE: [File<'static>; 3] = [
@@ -129,30 +114,14 @@ const TWO_OWNERS: [File<'static>; 4] = [
     ),
 ];
 
-// Three routers in a line, and a stub whose prefix holds the loopback of the last.
-const OVERLAPPING_STUB: [File<'static>; 3] = [
-    (
-        "net/r1.conf",
-        "hostname r1\ninterface eth0\n ip address 10.0.0.1/30\n ip ospf area 0\nrouter ospf\n",
-    ),
-    (
-        "net/r2.conf",
-        "hostname r2\ninterface eth0\n ip address 10.0.0.2/30\n ip ospf area 0\ninterface eth1\n ip address 10.0.1.1/30\n ip ospf area 0\nrouter ospf\n",
-    ),
-    (
-        "net/r3.conf",
-        "hostname r3\ninterface eth0\n ip address 10.0.1.2/30\n ip ospf area 0\ninterface lo\n ip address 10.9.0.3/32\n ip ospf area 0\nrouter ospf\ninterface eth1\n ip address 10.9.0.1/24\n",
-    ),
-];
-
-// The network of these files, where there is one.
-fn network(alloc: Global, files: &[File<'_>]) -> Option<Net> {
+/// The network of a folder of these files, where there is one.
+pub fn network(alloc: Global, files: &[File<'_>], folder: &str) -> Option<Net> {
     let content = files_of(alloc, files, &[]).ok()?;
     if !MemShelf::are_distinct(&content) {
         return None;
     }
     let mut shelf = MemShelf::new(alloc, content, &[]).ok()?;
-    let read = read_folder(alloc, &mut shelf, "bundle", "net").ok()?;
+    let read = read_folder(alloc, &mut shelf, "bundle", folder).ok()?;
     network_of(alloc, "bundle", read.as_slice()).ok()
 }
 
@@ -220,9 +189,9 @@ fn described(alloc: Global, net: &Net) -> Result<String, NoMemory> {
     Ok(text)
 }
 
-// Whether the network of these files is this one.
-fn is_network(alloc: Global, files: &[File<'_>], wanted: &str) -> bool {
-    match network(alloc, files) {
+// Whether the network of a folder of these files is this one.
+fn is_network_in(alloc: Global, files: &[File<'_>], folder: &str, wanted: &str) -> bool {
+    match network(alloc, files, folder) {
         Some(net) => match described(alloc, &net) {
             Ok(text) => text.as_str() == wanted,
             Err(NoMemory) => false,
@@ -231,18 +200,22 @@ fn is_network(alloc: Global, files: &[File<'_>], wanted: &str) -> bool {
     }
 }
 
+fn is_network(alloc: Global, files: &[File<'_>], wanted: &str) -> bool {
+    is_network_in(alloc, files, "net", wanted)
+}
+
 #[test]
 fn networks_of_ospf(rt: HostRuntime) {
     let alloc = rt.alloc();
     let wanted =
         "link 10.0.0.0/30 r1-r2 adjacency\nlink 10.0.1.0/30 r2-r3 adjacency\nowner r3 10.9.0.3/32 stub 0\n";
-    assert!(rt; is_network(alloc, &THREE_IN_A_LINE, wanted));
+    assert!(rt; is_network_in(alloc, &LINE, "old", wanted));
     let wanted =
         "link 10.0.0.0/30 r1-r2 adjacency\nlink 10.0.1.0/30 r1-r3 adjacency\nlink 10.0.2.0/30 r2-r3 adjacency\nowner r3 10.9.0.3/32 stub 0\n";
     assert!(rt; is_network(alloc, &TRIANGLE, wanted));
     let wanted =
         "link 10.0.0.0/30 r1-r2 adjacency\nlink 10.0.1.0/30 r2-r3 adjacency\nowner r3 10.9.0.0/24 stub\nowner r3 10.9.0.3/32 stub 0\n";
-    assert!(rt; is_network(alloc, &OVERLAPPING_STUB, wanted));
+    assert!(rt; is_network_in(alloc, &OVERLAPPING, "new", wanted));
 }
 
 #[test]
@@ -331,7 +304,7 @@ fn sixty_four_links_net(alloc: Global) -> Option<Net> {
         ("net/r1.conf", first.as_str()),
         ("net/r2.conf", second.as_str()),
     ];
-    network(alloc, &files)
+    network(alloc, &files, "net")
 }
 
 // Whether each link is an adjacency and no session, whose costs are 10 but for the low end of the first.

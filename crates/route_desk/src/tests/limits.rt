@@ -45,14 +45,14 @@ fn router(alloc: Global, k: u8, last: u8) -> Result<SourceFile, NoMemory> {
     })
 }
 
-// An empty folder, a line of so many routers, and a property of its first router.
+// An empty folder, a line of so many routers with a file that is no configuration, and a property of its first router.
 fn line(alloc: Global, routers: u8) -> Result<Vec<SourceFile>, NoMemory> {
     let mut files = Vec::new(alloc);
     let last = routers.saturating_sub(1);
     for k in 0..routers {
         files.push(router(alloc, k, last)?)?;
     }
-    super::put_files(alloc, &mut files, &[("old/", "")])?;
+    super::put_files(alloc, &mut files, &[("old/", ""), ("new/README", "")])?;
     super::put_files(alloc, &mut files, &super::folders::PROPERTIES)?;
     Ok(files)
 }
@@ -78,4 +78,27 @@ fn sixty_five_files(rt: HostRuntime) {
             "refused: new: TooManyFiles 65\n"
         )
     );
+}
+
+// So many files without a byte in the folder before the change, and no other.
+fn empty_files(alloc: Global, count: u8) -> Result<List<SourceFile>, NoMemory> {
+    let mut files = List::new(alloc);
+    for k in 0..count {
+        let name = format!(in alloc; "old/{k}.conf")?;
+        files.push(SourceFile {
+            name: Text::from_string(name),
+            text: List::new(alloc),
+        })?;
+    }
+    Ok(files)
+}
+
+#[test]
+fn sixty_five_files_before_the_change(rt: HostRuntime) {
+    let alloc = rt.alloc();
+    let run = match empty_files(alloc, 65) {
+        Ok(files) => run_over(alloc, &CHECK, files, &[], &[]),
+        Err(NoMemory) => None,
+    };
+    assert!(rt; ends(run, 2, "refused: base: TooManyFiles 65\n"));
 }

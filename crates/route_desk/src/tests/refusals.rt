@@ -161,12 +161,9 @@ fn line_refused_until_failures(rt: HostRuntime) {
 fn refused_properties(rt: HostRuntime) {
     let one =
         "[[property]]\nname = \"p1\"\nkind = \"reach\"\nrouter = \"r1\"\nprefix = \"10.9.0.3/32\"\nfailures = 0\n";
-    let until_failures =
-        "[[property]]\nname = \"p1\"\nkind = \"reach\"\nrouter = \"r1\"\nprefix = \"10.9.0.3/32\"\nfailures = 1\n";
     let twice =
         "[[property]]\nname = \"p1\"\nkind = \"reach\"\nrouter = \"r1\"\nprefix = \"10.9.0.3/32\"\nfailures = 0\n[[property]]\nname = \"p1\"\nkind = \"reach\"\nrouter = \"r2\"\nprefix = \"10.9.0.3/32\"\nfailures = 0\n";
     let cases = [
-        (until_failures, "refused: properties: BadField 1\n"),
         (twice, "refused: properties: SameName 2\n"),
         ("[", "refused: properties: NotToml\n"),
         ("property = 3\n", "refused: properties: BadField 0\n"),

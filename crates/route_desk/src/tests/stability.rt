@@ -27,6 +27,38 @@ fn two_stable_solutions(rt: HostRuntime) {
     assert!(rt; tells(alloc, &TWO_STABLE, BOTH_DIRECT, 1, "not stable at a\n"));
 }
 
+// Whether `stable` of these labels, with this link failed, ends with this status and text.
+fn tells_without(alloc: Global, link: u8, labels: &str, status: u8, text: &str) -> bool {
+    match format!(in alloc; "down = [{link}]\n{labels}") {
+        Ok(failed) => tells(alloc, &TWO_STABLE, failed.as_str(), status, text),
+        Err(_) => false,
+    }
+}
+
+#[test]
+fn failed_links(rt: HostRuntime) {
+    let cases = [
+        (1, THROUGH_B, 0, "stable\n"),
+        (2, THROUGH_B, 1, "not stable at b\n"),
+        (1, THROUGH_A, 1, "not stable at a\n"),
+        (0, BOTH_DIRECT, 0, "stable\n"),
+        (2, THROUGH_A, 0, "stable\n"),
+        (0, THROUGH_A, 1, "not stable at b\n"),
+    ];
+    for (link, labels, status, text) in cases {
+        assert!(rt; tells_without(rt.alloc(), link, labels, status, text));
+    }
+}
+
+#[test]
+fn a_failed_link_takes_a_distance(rt: HostRuntime) {
+    let alloc = rt.alloc();
+    let none = "prefix = \"10.9.0.1/32\"\n";
+    assert!(rt; tells(alloc, &LOOP, none, 1, "not stable at x\n"));
+    let failed = "prefix = \"10.9.0.1/32\"\ndown = [0]\n";
+    assert!(rt; tells(alloc, &LOOP, failed, 0, "stable\n"));
+}
+
 #[test]
 fn local_or_learned(rt: HostRuntime) {
     let alloc = rt.alloc();
