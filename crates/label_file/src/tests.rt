@@ -4,6 +4,9 @@ ghost use Rattle.std.specs.Prelude.{◌≡◌, false, true, IfOk};
 ghost use Rattle.net_types.specs.Masks.{masked};
 ghost use Rattle.net_types.specs.NetFacts.{IsRouter};
 
+mod fields;
+mod files;
+
 use crate::{Labels, read_labels};
 use net_types::{
     Arc, End, FormRefusal, Link, List, Net, NoMemory, Origin, Policy, Prefix, Route, Router,
