@@ -7,6 +7,7 @@ use std::alloc::Global;
 
 mod bundles;
 mod folders;
+mod labellings;
 mod limits;
 mod memory;
 mod networks;

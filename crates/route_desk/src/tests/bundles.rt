@@ -10,8 +10,24 @@ use net_types::{Link, Net, NoMemory, Notice, Owned, Router, address_text, prefix
 use outside::MemShelf;
 use std::alloc::Global;
 
-// Three routers in a triangle.
-const TRIANGLE: [File<'static>; 3] = [
+/// Three routers in a line.
+pub const THREE_IN_A_LINE: [File<'static>; 3] = [
+    (
+        "net/r1.conf",
+        "hostname r1\ninterface eth0\n ip address 10.0.0.1/30\n ip ospf area 0\nrouter ospf\n",
+    ),
+    (
+        "net/r2.conf",
+        "hostname r2\ninterface eth0\n ip address 10.0.0.2/30\n ip ospf area 0\ninterface eth1\n ip address 10.0.1.1/30\n ip ospf area 0\nrouter ospf\n",
+    ),
+    (
+        "net/r3.conf",
+        "hostname r3\ninterface eth0\n ip address 10.0.1.2/30\n ip ospf area 0\ninterface lo\n ip address 10.9.0.3/32\n ip ospf area 0\nrouter ospf\n",
+    ),
+];
+
+/// Three routers in a triangle.
+pub const TRIANGLE: [File<'static>; 3] = [
     (
         "net/r1.conf",
         "hostname r1\ninterface eth0\n ip address 10.0.0.1/30\n ip ospf area 0\ninterface eth1\n ip address 10.0.1.1/30\n ip ospf area 0\nrouter ospf\n",
@@ -94,8 +110,8 @@ const STAMPED_AND_PREFERRED: [File<'static>; 3] = [
     ),
 ];
 
-// Two owners, of which one originates the prefix.
-const TWO_OWNERS: [File<'static>; 4] = [
+/// Two owners, of which one originates the prefix.
+pub const TWO_OWNERS: [File<'static>; 4] = [
     (
         "net/o1.conf",
         "hostname o1\ninterface eth0\n ip address 10.0.0.1/30\ninterface lo\n ip address 10.9.0.1/32\nrouter bgp 65001\n no bgp ebgp-requires-policy\n neighbor 10.0.0.2 remote-as 65004\n network 10.9.0.1/32\n",

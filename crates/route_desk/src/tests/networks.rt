@@ -97,3 +97,39 @@ pub const LOOPING: &str =
 /// The same without the label of m.
 pub const WITHOUT_M: &str =
     "prefix = \"10.9.0.1/32\"\n[[label]]\nrouter = \"x\"\nsource = \"local\"\nweight = 32768\npreference = 100\npath = []\norigin = \"incomplete\"\nmed = 20\ncommunities = []\n";
+
+/// The owner d, r2 and r3 beside it, and r1 beside these: links 0 d-r2, 1 d-r3, 2 r1-r2, 3 r1-r3.
+pub const TWO_WAYS: [File<'static>; 4] = [
+    (
+        "net/d.conf",
+        "hostname d\ninterface eth0\n ip address 10.0.0.1/30\ninterface eth1\n ip address 10.0.1.1/30\nrouter bgp 65001\n no bgp ebgp-requires-policy\n neighbor 10.0.0.2 remote-as 65003\n neighbor 10.0.1.2 remote-as 65004\n network 10.9.0.0/24\n",
+    ),
+    (
+        "net/r1.conf",
+        "hostname r1\ninterface eth0\n ip address 10.0.2.1/30\ninterface eth1\n ip address 10.0.3.1/30\nrouter bgp 65002\n no bgp ebgp-requires-policy\n neighbor 10.0.2.2 remote-as 65003\n neighbor 10.0.3.2 remote-as 65004\n",
+    ),
+    (
+        "net/r2.conf",
+        "hostname r2\ninterface eth0\n ip address 10.0.0.2/30\ninterface eth1\n ip address 10.0.2.2/30\nrouter bgp 65003\n no bgp ebgp-requires-policy\n neighbor 10.0.0.1 remote-as 65001\n neighbor 10.0.2.1 remote-as 65002\n",
+    ),
+    (
+        "net/r3.conf",
+        "hostname r3\ninterface eth0\n ip address 10.0.1.2/30\ninterface eth1\n ip address 10.0.3.2/30\nrouter bgp 65004\n no bgp ebgp-requires-policy\n neighbor 10.0.1.1 remote-as 65001\n neighbor 10.0.3.1 remote-as 65002\n",
+    ),
+];
+
+/// The owner o, m with two links to it, and z behind m: links 0 m-o, 1 m-o, 2 m-z.
+pub const TWICE_LINKED: [File<'static>; 3] = [
+    (
+        "net/m.conf",
+        "hostname m\ninterface eth0\n ip address 10.0.0.1/30\ninterface eth1\n ip address 10.0.1.1/30\ninterface eth2\n ip address 10.0.2.1/30\nrouter bgp 65001\n no bgp ebgp-requires-policy\n neighbor 10.0.0.2 remote-as 65002\n neighbor 10.0.1.2 remote-as 65002\n neighbor 10.0.2.2 remote-as 65003\n",
+    ),
+    (
+        "net/o.conf",
+        "hostname o\ninterface eth0\n ip address 10.0.0.2/30\ninterface eth1\n ip address 10.0.1.2/30\nrouter bgp 65002\n no bgp ebgp-requires-policy\n neighbor 10.0.0.1 remote-as 65001\n neighbor 10.0.1.1 remote-as 65001\n network 10.9.0.0/24\n",
+    ),
+    (
+        "net/z.conf",
+        "hostname z\ninterface eth0\n ip address 10.0.2.2/30\nrouter bgp 65003\n no bgp ebgp-requires-policy\n neighbor 10.0.2.1 remote-as 65001\n",
+    ),
+];

@@ -1,11 +1,18 @@
 //! The command `stable`.
 
-use super::networks::{
-    BOTH_DIRECT, LOCAL_OR_LEARNED, LOOP, LOOPING, NONE_STABLE, THROUGH_A, THROUGH_B, TWO_STABLE,
-    WITHOUT_M, X_LEARNED, X_LOCAL,
+use super::bundles::{THREE_IN_A_LINE, TRIANGLE, TWO_OWNERS};
+use super::labellings::{
+    Case, FAILED, LOOPS, MEDS, OWNED_BY_NOBODY, OWNERS, REDISTRIBUTED, SILENT_LINE,
+    SILENT_TRIANGLE, STAMPS, TIES_AND_LENGTHS,
 };
-use super::{File, ending_of, ends};
+use super::networks::{
+    BOTH_DIRECT, LOCAL_OR_LEARNED, LOOP, LOOPING, NONE_STABLE, THROUGH_A, THROUGH_B, TWICE_LINKED,
+    TWO_STABLE, TWO_WAYS, WITHOUT_M, X_LEARNED, X_LOCAL,
+};
+use super::{Ended, File, ending_of, ends, run_over};
+use net_types::{List, NoMemory, SourceFile, Text};
 use std::alloc::Global;
+use std::process::Abort;
 
 const STABLE: [&str; 3] = ["stable", "net", "labels"];
 
@@ -25,38 +32,6 @@ fn two_stable_solutions(rt: HostRuntime) {
     assert!(rt; tells(alloc, &TWO_STABLE, THROUGH_A, 0, "stable\n"));
     assert!(rt; tells(alloc, &TWO_STABLE, THROUGH_B, 0, "stable\n"));
     assert!(rt; tells(alloc, &TWO_STABLE, BOTH_DIRECT, 1, "not stable at a\n"));
-}
-
-// Whether `stable` of these labels, with this link failed, ends with this status and text.
-fn tells_without(alloc: Global, link: u8, labels: &str, status: u8, text: &str) -> bool {
-    match format!(in alloc; "down = [{link}]\n{labels}") {
-        Ok(failed) => tells(alloc, &TWO_STABLE, failed.as_str(), status, text),
-        Err(_) => false,
-    }
-}
-
-#[test]
-fn failed_links(rt: HostRuntime) {
-    let cases = [
-        (1, THROUGH_B, 0, "stable\n"),
-        (2, THROUGH_B, 1, "not stable at b\n"),
-        (1, THROUGH_A, 1, "not stable at a\n"),
-        (0, BOTH_DIRECT, 0, "stable\n"),
-        (2, THROUGH_A, 0, "stable\n"),
-        (0, THROUGH_A, 1, "not stable at b\n"),
-    ];
-    for (link, labels, status, text) in cases {
-        assert!(rt; tells_without(rt.alloc(), link, labels, status, text));
-    }
-}
-
-#[test]
-fn a_failed_link_takes_a_distance(rt: HostRuntime) {
-    let alloc = rt.alloc();
-    let none = "prefix = \"10.9.0.1/32\"\n";
-    assert!(rt; tells(alloc, &LOOP, none, 1, "not stable at x\n"));
-    let failed = "prefix = \"10.9.0.1/32\"\ndown = [0]\n";
-    assert!(rt; tells(alloc, &LOOP, failed, 0, "stable\n"));
 }
 
 #[test]
@@ -142,4 +117,113 @@ fn refused_before_the_labels(rt: HostRuntime) {
     assert!(rt; tells(alloc, &[], "", 2, "refused: no such path net\n"));
     let unlabelled = ending_of(alloc, &STABLE, &TWO_STABLE, &[], &[], &[]);
     assert!(rt; ends(unlabelled, 2, "refused: no such path labels\n"));
+}
+
+// The text of a file with the lines that it has besides.
+fn with_lines(alloc: Global, file: &File<'_>, lines: &[File<'_>]) -> Result<SourceFile, NoMemory> {
+    let (path, text) = file;
+    let mut all = Vec::new(alloc);
+    all.extend_from_slice(text.as_bytes())?;
+    for (owner, more) in lines {
+        if owner == path {
+            all.extend_from_slice(more.as_bytes())?;
+        }
+    }
+    Ok(SourceFile {
+        name: Text::from_str(alloc, path)?,
+        text: List::from_vec(all),
+    })
+}
+
+// The label file of a case.
+fn label_file(alloc: Global, prefix: &str, case: &Case) -> Result<SourceFile, NoMemory> {
+    let mut all = Vec::new(alloc);
+    all.extend_from_slice(b"prefix = \"")?;
+    all.extend_from_slice(prefix.as_bytes())?;
+    all.extend_from_slice(b"\"\ndown = [")?;
+    all.extend_from_slice(case.down.as_bytes())?;
+    all.extend_from_slice(b"]\nlabel = [")?;
+    for label in case.labels {
+        all.extend_from_slice(label.as_bytes())?;
+    }
+    all.push(b']')?;
+    Ok(SourceFile {
+        name: Text::from_str(alloc, "labels")?,
+        text: List::from_vec(all),
+    })
+}
+
+fn content_of(
+    alloc: Global,
+    files: &[File<'_>],
+    prefix: &str,
+    case: &Case,
+) -> Result<List<SourceFile>, NoMemory> {
+    let mut content = List::new(alloc);
+    content.push(label_file(alloc, prefix, case)?)?;
+    for file in files {
+        content.push(with_lines(alloc, file, case.lines)?)?;
+    }
+    Ok(content)
+}
+
+fn answer_of(alloc: Global, files: &[File<'_>], prefix: &str, case: &Case) -> Option<Ended> {
+    let content = content_of(alloc, files, prefix, case).ok()?;
+    run_over(alloc, &STABLE, content, &[], &[])
+}
+
+// Whether a run says that the labelling is stable, or breaks first at this router.
+fn says(ended: Option<Ended>, breaks: Option<&str>) -> bool {
+    let Some(ended) = ended else {
+        return false;
+    };
+    let text = ended.text.as_slice();
+    match breaks {
+        None => ended.status == 0 && text == b"stable\n".as_slice(),
+        Some(host) => {
+            ended.status == 1
+                && text
+                    .strip_prefix(b"not stable at ".as_slice())
+                    .and_then(|rest| rest.strip_suffix(b"\n".as_slice()))
+                    == Some(host.as_bytes())
+        }
+    }
+}
+
+fn check(rt: &impl Abort, alloc: Global, files: &[File<'_>], prefix: &str, cases: &[Case]) {
+    for case in cases {
+        let ended = answer_of(alloc, files, prefix, case);
+        assert!(rt; says(ended, case.breaks), "{}", case.name);
+    }
+}
+
+#[test]
+fn labellings_with_failed_links(rt: HostRuntime) {
+    let alloc = rt.alloc();
+    check(&rt, alloc, &TWO_STABLE, "10.9.0.0/24", &FAILED);
+    check(&rt, alloc, &LOCAL_OR_LEARNED, "10.9.0.1/32", &REDISTRIBUTED);
+    check(&rt, alloc, &LOOP, "10.9.0.1/32", &LOOPS);
+}
+
+#[test]
+fn labellings_and_policies(rt: HostRuntime) {
+    let alloc = rt.alloc();
+    check(&rt, alloc, &TWO_WAYS, "10.9.0.0/24", &TIES_AND_LENGTHS);
+    check(&rt, alloc, &TWICE_LINKED, "10.9.0.0/24", &STAMPS);
+    check(&rt, alloc, &TWICE_LINKED, "10.9.0.0/24", &MEDS);
+    check(&rt, alloc, &TWO_OWNERS, "10.9.0.1/32", &OWNERS);
+}
+
+#[test]
+fn labellings_without_bgp(rt: HostRuntime) {
+    let alloc = rt.alloc();
+    check(&rt, alloc, &TRIANGLE, "10.9.0.3/32", &SILENT_TRIANGLE);
+    check(&rt, alloc, &THREE_IN_A_LINE, "10.9.0.3/32", &SILENT_LINE);
+    check(
+        &rt,
+        alloc,
+        &THREE_IN_A_LINE,
+        "10.9.0.9/32",
+        &OWNED_BY_NOBODY,
+    );
 }
