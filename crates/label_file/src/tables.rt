@@ -100,7 +100,12 @@ fn if_known(router: u8, table: &Table, route: Route) -> Option<Label>
     }
 }
 
-fn label_of_fields(alloc: Global, net: &Net, table: &Table, router: u8) -> Result<Option<Label>, NoMemory>
+fn label_of_fields(
+    alloc: Global,
+    net: &Net,
+    table: &Table,
+    router: u8,
+) -> Result<Option<Label>, NoMemory>
     ensures { IfOk result (λ label. label ≡ label_of_fields net.now (table_view table.now) router) }
 {
     match route_at(alloc, net, router, table)? {
