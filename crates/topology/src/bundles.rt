@@ -5,7 +5,7 @@ ghost use Rattle.net_types.specs.ConfigFacts.{IsConfig};
 ghost use Rattle.frr_reader.specs.Reading.{reading, Answers};
 ghost use Rattle.topology.specs.Meaning.{SessionsHaveSystems};
 ghost use Rattle.topology.specs.Network.{network_of};
-ghost use Rattle.topology.specs.Files.{IsNetAnswer};
+ghost use Rattle.topology.specs.Files.{IsNetAnswer, IsAnswerOn};
 ghost use Rattle.topology.specs.Bundle.{bytes_of, named, configs_of, in_net, bundle_of, BundleAnswers};
 
 use crate::networks::build;
@@ -24,6 +24,7 @@ const MAX_BYTES: u64 = 4_194_304;
 /// Files are numbered by their place in the list, which a caller gives in the byte order of their names.
 pub fn read_bundle(alloc: Global, files: &[SourceFile]) -> Result<Net, BundleRefusal>
     ensures exact { BundleAnswers (bundle_of files.now) result }
+    ensures meaning { IsAnswerOn files.now result }
     ensures sessions { IfOk result (λ net. SessionsHaveSystems net) }
 {
     if files.len() > MAX_FILES {
@@ -33,8 +34,10 @@ pub fn read_bundle(alloc: Global, files: &[SourceFile]) -> Result<Net, BundleRef
     if bytes > MAX_BYTES {
         return Err(BundleRefusal::TooLarge(bytes));
     }
-    let configs = configs_of(alloc, files)?;
-    net_of(alloc, configs.as_slice())
+    match configs_of(alloc, files) {
+        Ok(configs) => net_of(alloc, configs.as_slice()),
+        Err(refusal) => Err(refusal),
+    }
 }
 
 // The bytes of all texts, at most the greatest u64.

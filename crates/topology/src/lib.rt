@@ -27,4 +27,8 @@ pub use bundles::read_bundle;
 pub use networks::build;
 
 #[cfg(test)]
+mod net_rows;
+#[cfg(test)]
+mod net_texts;
+#[cfg(test)]
 mod tests;

@@ -1,12 +1,11 @@
-//! Small bundles whose networks and refusals are known.
+//! Small bundles whose refusals are known, and the limits.
 
 ghost use Rattle.std.specs.Prelude.{◌≤◌, IfOk, All};
 ghost use Rattle.net_types.specs.ConfigFacts.{IsConfig};
 
 use crate::{build, read_bundle};
 use net_types::{
-    Bits64, BundleRefusal, End, Link, List, Net, NetMapEntry, NetRefusal, NetSetCommunity, NetSets,
-    Notice, Owned, Policy, Prefix, Router, RouterConfig, SourceFile, Text,
+    BundleRefusal, List, Net, NetRefusal, Prefix, ReadRefusal, RouterConfig, SourceFile, Text,
 };
 use std::alloc::{AllocError, Global};
 use std::process::Abort;
@@ -19,149 +18,12 @@ fn source(alloc: Global, text: &str) -> Result<SourceFile, AllocError> {
     })
 }
 
-fn read(alloc: Global, texts: &[&str]) -> Result<Result<Net, BundleRefusal>, AllocError> {
+pub fn read(alloc: Global, texts: &[&str]) -> Result<Result<Net, BundleRefusal>, AllocError> {
     let mut files = Vec::new(alloc);
     for text in texts {
         files.push(source(alloc, text)?)?;
     }
     Ok(read_bundle(alloc, &files))
-}
-
-// Router a: an OSPF link whose other end does not run OSPF, stubs of two costs in one prefix, and one that is
-// shut down.
-static STUBS: [&str; 2] = [
-    "hostname b\ninterface eth0\n ip address 10.0.5.0/31\n ip ospf area 0\n",
-    "hostname a\ninterface lo\n ip address 10.1.1.1/24\n ip ospf area 0\n ip ospf cost 7\ninterface eth0\n ip address 10.1.1.2/24\n ip ospf area 0\n ip ospf cost 5\ninterface eth3\n ip address 10.0.4.1/24\n shutdown\ninterface eth4\n ip address 10.0.5.1/31\n ip ospf cost 3\nrouter ospf\n network 10.0.5.0/31 area 0\n",
-];
-
-#[test]
-fn stubs_and_costs(rt: HostRuntime) -> Result<(), Fail> {
-    let net = read(rt.alloc(), &STUBS)??;
-    let closed = Policy::Closed;
-    let links = [Link {
-        subnet: Prefix::masked(0x0A00_0500, 31),
-        low: end(0, 0x0A00_0501, 3, closed, closed),
-        high: end(1, 0x0A00_0500, 10, closed, closed),
-        session: false,
-        adjacency: false,
-    }];
-    assert_eq!(rt; net.links(), links.as_slice());
-    let stub = Owned {
-        prefix: Prefix::masked(0x0A01_0100, 24),
-        network: false,
-        stub: true,
-        ospf_cost: Some(0),
-    };
-    assert_owned(&rt, &net, 0, &[stub]);
-    assert_owned(&rt, &net, 1, &[]);
-    Ok(())
-}
-
-fn end(router: u8, address: u32, cost: u32, import: Policy, export: Policy) -> End {
-    End {
-        router,
-        address,
-        cost,
-        import,
-        export,
-    }
-}
-
-// What one router owns.
-fn assert_owned(rt: &impl Abort, net: &Net, router: usize, owned: &[Owned]) {
-    match net.routers().get(router) {
-        None => assert!(rt; false),
-        Some(found) => assert_eq!(rt; found.owned.as_slice(), owned),
-    }
-}
-
-// Routers a and b name one another, a and c do not.
-static SESSIONS: [&str; 3] = [
-    "hostname a\ninterface e0\n ip address 10.0.0.1/30\ninterface e1\n ip address 10.0.1.1/30\nrouter bgp 65001\n neighbor 10.0.9.9 remote-as 65009\n neighbor 10.0.0.2 remote-as 65002\n neighbor 10.0.0.2 route-map IN in\n neighbor 10.0.1.2 remote-as 65003\n network 10.9.0.0/24\n redistribute connected route-map IN\nip prefix-list P seq 5 permit 10.9.0.0/16 le 32\nbgp community-list standard T seq 5 permit 65000:1\nroute-map OTHER deny 10\nroute-map IN permit 10\n match ip address prefix-list P\n match community T\n set community 65000:2 additive\n set as-path prepend 65001 65001\n",
-    "hostname b\ninterface e0\n ip address 10.0.0.2/30\nrouter bgp 65002\n no bgp ebgp-requires-policy\n neighbor 10.0.0.1 remote-as 65001\n redistribute ospf\n",
-    "hostname c\ninterface e0\n ip address 10.0.1.2/30\nrouter bgp 65003\n neighbor 10.0.1.1 remote-as 65009\n",
-];
-
-#[test]
-fn sessions_and_notices(rt: HostRuntime) -> Result<(), Fail> {
-    let net = read(rt.alloc(), &SESSIONS)??;
-    let (closed, open) = (Policy::Closed, Policy::Open);
-    let links = [
-        Link {
-            subnet: Prefix::masked(0x0A00_0000, 30),
-            low: end(0, 0x0A00_0001, 10, Policy::Map(1), closed),
-            high: end(1, 0x0A00_0002, 10, open, open),
-            session: true,
-            adjacency: false,
-        },
-        Link {
-            subnet: Prefix::masked(0x0A00_0100, 30),
-            low: end(0, 0x0A00_0101, 10, closed, closed),
-            high: end(2, 0x0A00_0102, 10, closed, closed),
-            session: false,
-            adjacency: false,
-        },
-    ];
-    assert_eq!(rt; net.links(), links.as_slice());
-    let notices = [
-        notice(0, 0x0A00_0102),
-        notice(0, 0x0A00_0909),
-        notice(2, 0x0A00_0101),
-    ];
-    assert_eq!(rt; net.notices(), notices.as_slice());
-    let communities = [0xFDE8_0001, 0xFDE8_0002, 0xFFFF_FF01, 0xFFFF_FF02];
-    assert_eq!(rt; net.communities(), communities.as_slice());
-    let network = Owned {
-        prefix: Prefix::masked(0x0A09_0000, 24),
-        network: true,
-        stub: false,
-        ospf_cost: None,
-    };
-    assert_owned(&rt, &net, 0, &[network]);
-    Ok(())
-}
-
-fn notice(router: u8, address: u32) -> Notice {
-    Notice { router, address }
-}
-
-#[test]
-fn names_as_positions(rt: HostRuntime) -> Result<(), Fail> {
-    let net = read(rt.alloc(), &SESSIONS)??;
-    let sets = NetSets {
-        weight: None,
-        preference: None,
-        med: None,
-        origin: None,
-        delete: None,
-        community: NetSetCommunity::Add(Bits64::EMPTY.with(1)),
-        prepend: 2,
-    };
-    let entry = NetMapEntry {
-        seq: 10,
-        permit: true,
-        prefixes: Some(0),
-        communities: Some(0),
-        sets,
-    };
-    match net.routers() {
-        [a, b, _c] => {
-            assert_second_map(&rt, a, entry);
-            assert_eq!(rt; a.asn, Some(65001));
-            assert_eq!(rt; a.connected, Policy::Map(1));
-            assert_eq!(rt; b.ospf, Policy::Open);
-        }
-        _ => assert!(rt; false),
-    }
-    Ok(())
-}
-
-// The one entry of a router's second map.
-fn assert_second_map(rt: &impl Abort, router: &Router, entry: NetMapEntry) {
-    match router.maps.as_slice() {
-        [_first, routes] => assert_eq!(rt; routes.entries.as_slice(), [entry].as_slice()),
-        _ => assert!(rt; false),
-    }
 }
 
 // What two configurations have in common.
@@ -270,15 +132,21 @@ fn many_links(alloc: Global, host: &str, last: u32, count: u32) -> Result<String
     Ok(text)
 }
 
-// A router with a community list of so many values, one an entry.
-fn many_communities(alloc: Global, count: u32) -> Result<String, AllocError> {
-    let mut text = format!(in alloc; "hostname a\n")?;
+// Puts a community list of so many values, one an entry, behind the text.
+fn push_communities(text: &mut String, alloc: Global, count: u32) -> Result<(), AllocError> {
     for number in 1..=count {
         let entry = format!(in alloc;
             "bgp community-list standard T seq {number} permit 65000:{number}\n"
         )?;
         text.push_str(&entry)?;
     }
+    Ok(())
+}
+
+// A router with such a list.
+fn many_communities(alloc: Global, count: u32) -> Result<String, AllocError> {
+    let mut text = format!(in alloc; "hostname a\n")?;
+    push_communities(&mut text, alloc, count)?;
     Ok(text)
 }
 
@@ -289,6 +157,10 @@ fn limits(rt: HostRuntime) -> Result<(), Fail> {
     let b = many_links(alloc, "b", 2, 65)?;
     let refusal = read(alloc, &[&a, &b])?.err();
     let links = BundleRefusal::InNet(NetRefusal::TooManyLinks(65));
+    assert_eq!(rt; refusal, Some(links));
+    let mut both = many_links(alloc, "a", 1, 65)?;
+    push_communities(&mut both, alloc, 63)?;
+    let refusal = read(alloc, &[&both, &b])?.err();
     assert_eq!(rt; refusal, Some(links));
     let text = many_communities(alloc, 63)?;
     let refusal = read(alloc, &[&text])?.err();
@@ -331,5 +203,38 @@ fn many_routers(rt: HostRuntime) -> Result<(), Fail> {
     let alloc = rt.alloc();
     let refusal = build(alloc, &configs(alloc, 65)?).err();
     assert_eq!(rt; refusal, Some(NetRefusal::TooManyRouters(65)));
+    let net = build(alloc, &configs(alloc, 64)?)?;
+    assert_eq!(rt; net.routers().len(), 64);
+    Ok(())
+}
+
+// The refusal of files of so many newlines each.
+fn refusal_of(alloc: Global, sizes: &[usize]) -> Result<Option<BundleRefusal>, Fail> {
+    let mut files = Vec::new(alloc);
+    for size in sizes {
+        files.push(SourceFile {
+            name: Text::from_str(alloc, "router.conf")?,
+            text: List::from_vec(vec![in alloc; b'\n'; *size]?),
+        })?;
+    }
+    Ok(read_bundle(alloc, &files).err())
+}
+
+#[test]
+fn limits_of_a_bundle(rt: HostRuntime) -> Result<(), Fail> {
+    let alloc = rt.alloc();
+    let unnamed = Some(BundleRefusal::InFile(0, ReadRefusal::NoHostname));
+    assert_eq!(rt;
+        refusal_of(alloc, &[0; 65])?,
+        Some(BundleRefusal::TooManyFiles(65))
+    );
+    assert_eq!(rt; refusal_of(alloc, &[0; 64])?, unnamed);
+    let mut sizes = vec![in alloc; 262_144; 16]?;
+    assert_eq!(rt; refusal_of(alloc, &sizes)?, unnamed);
+    sizes.push(1)?;
+    assert_eq!(rt;
+        refusal_of(alloc, &sizes)?,
+        Some(BundleRefusal::TooLarge(4_194_305))
+    );
     Ok(())
 }
