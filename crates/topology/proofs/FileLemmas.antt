@@ -1,5 +1,5 @@
 -- What the files of a folder say, and which of them is the first that is refused.
-use Rattle.std.proofs.Common.{ℕ, zero, suc, ◌≡◌, ◌≢◌, ◌+◌, ◌<◌, true, false, List, [], ◌∷◌, length, Option, Some, None, slice_get, Result, Ok, Err, refl, ap, sym, subst, ◌∙◌, arith}
+use Rattle.std.proofs.Common.{ℕ, zero, suc, ◌≡◌, ◌≢◌, ◌+◌, ◌<◌, List, [], ◌∷◌, Some, None, slice_get, Result, Ok, Err, refl, ap, sym, subst, ◌∙◌, arith}
 use Rattle.std.proofs.lemmas.Bool.{false≢true}
 use Rattle.net_types.specs.declared.config.RouterConfig.{RouterConfig}
 use Rattle.net_types.specs.declared.config.SourceFile.{SourceFile}
@@ -43,11 +43,11 @@ Says file config = reading file.text ≡ Ok config
 
 pub said : (files : List SourceFile) (from : ℕ) (configs : List RouterConfig) → configs_of from files ≡ Ok configs → AreSaid files configs
 said [] from configs e = subst (λ (cs : List RouterConfig). AreSaid [] cs) (same_configs [] configs e) (record { long = refl; each = λ k file config f g. no_file file f })
-said (file ∷ files) from configs e = go (reading file.text) refl (configs_of (from + 1) files) refl e where
-  go : (r : Result RouterConfig ReadRefusal) → reading file.text ≡ r → (later : Result (List RouterConfig) BundleRefusal) → configs_of (from + 1) files ≡ later → before from r later ≡ Ok configs → AreSaid (file ∷ files) configs
-  go (Err refusal) f later g h = apart (InFile from refusal) configs h
-  go (Ok config) f (Err refusal) g h = apart refusal configs h
-  go (Ok config) f (Ok cs) g h = subst (λ (all : List RouterConfig). AreSaid (file ∷ files) all) (same_configs (config ∷ cs) configs h) (AreAlike-cons Says file config files cs f (said files (from + 1) cs g))
+said (file ∷ files) from configs e = go (said files (from + 1)) (reading file.text) refl (configs_of (from + 1) files) refl e where
+  go : ((cs : List RouterConfig) → configs_of (from + 1) files ≡ Ok cs → AreSaid files cs) → (r : Result RouterConfig ReadRefusal) → reading file.text ≡ r → (later : Result (List RouterConfig) BundleRefusal) → configs_of (from + 1) files ≡ later → before from r later ≡ Ok configs → AreSaid (file ∷ files) configs
+  go rest (Err refusal) f later g h = apart (InFile from refusal) configs h
+  go rest (Ok config) f (Err refusal) g h = apart refusal configs h
+  go rest (Ok config) f (Ok cs) g h = subst (λ (all : List RouterConfig). AreSaid (file ∷ files) all) (same_configs (config ∷ cs) configs h) (AreAlike-cons Says file config files cs f (rest cs g))
 
 -- a refusal of files from this number on names the first that is refused
 record IsRefusedAt (files : List SourceFile) (from : ℕ) (r : BundleRefusal) : Type 0 where
@@ -61,7 +61,7 @@ not_memory text refusal e n = (read_once text).no_memory (((read_once text).ref 
 
 refused_at : (files : List SourceFile) (from : ℕ) (r : BundleRefusal) → configs_of from files ≡ Err r → IsRefusedAt files from r
 refused_at [] from r e = apart_too r [] e
-refused_at (file ∷ files) from r e = go (reading file.text) refl (configs_of (from + 1) files) refl e where
+refused_at (file ∷ files) from r e = go (refused_at files (from + 1) r) (reading file.text) refl (configs_of (from + 1) files) refl e where
   none_before : (k : ℕ) (other : SourceFile) → k < 0 → slice_get (file ∷ files) k ≡ Some other → (config : RouterConfig) × (reading other.text ≡ Ok config)
   none_before k other l f = absurd (omega arith)
 
@@ -76,15 +76,15 @@ refused_at (file ∷ files) from r e = go (reading file.text) refl (configs_of (
     earlier zero other l g = (config, ap (λ (x : SourceFile). reading x.text) (sym (inside file other g)) ∙ f)
     earlier (suc k) other l g = i.first.before k other (omega arith) g
 
-  go : (read : Result RouterConfig ReadRefusal) → reading file.text ≡ read → (later : Result (List RouterConfig) BundleRefusal) → configs_of (from + 1) files ≡ later → before from read later ≡ Err r → IsRefusedAt (file ∷ files) from r
-  go (Err refusal) f later g h = record {
+  go : (configs_of (from + 1) files ≡ Err r → IsRefusedAt files (from + 1) r) → (read : Result RouterConfig ReadRefusal) → reading file.text ≡ read → (later : Result (List RouterConfig) BundleRefusal) → configs_of (from + 1) files ≡ later → before from read later ≡ Err r → IsRefusedAt (file ∷ files) from r
+  go rest (Err refusal) f later g h = record {
     k = 0;
     refusal = refusal;
     is = sym (same_refusal (InFile from refusal) r h) ∙ ap (λ (n : ℕ). InFile n refusal) (let n : from ≡ from + 0 = omega arith in n);
     first = record { file = file; there = refl; refused = f; before = none_before; cause = not_memory file.text refusal f };
   }
-  go (Ok config) f (Ok cs) g h = apart_too r (config ∷ cs) h
-  go (Ok config) f (Err refusal) g h = later_too config f (refused_at files (from + 1) r (g ∙ ap (λ (x : BundleRefusal). Err x) (same_refusal refusal r h)))
+  go rest (Ok config) f (Ok cs) g h = apart_too r (config ∷ cs) h
+  go rest (Ok config) f (Err refusal) g h = later_too config f (rest (g ∙ ap (λ (x : BundleRefusal). Err x) (same_refusal refusal r h)))
 
 refused_from : (files : List SourceFile) (r : BundleRefusal) → configs_of 0 files ≡ Err r → IsRefusalOf files r
 refused_from files r e =

@@ -1,5 +1,5 @@
 -- The policies, lists and maps of a router are those that its configuration says.
-use Rattle.std.proofs.Common.{ℕ, zero, suc, ◌≡◌, ◌+◌, ◌≤◌, ◌||◌, Bool, true, false, not, cond, List, [], ◌∷◌, length, map, refl, ap, sym, subst, ◌∙◌, arith, All, Option, Some, None, slice_get, nat_eq}
+use Rattle.std.proofs.Common.{ℕ, zero, suc, ◌≡◌, ◌+◌, ◌≤◌, ◌||◌, Bool, true, false, not, cond, List, [], ◌∷◌, map, refl, ap, sym, subst, ◌∙◌, arith, All, Option, Some, None, slice_get}
 use Rattle.std.specs.List.{list_any, position_or_len}
 use Rattle.std.specs.Option.{IfSome, option_map, option_map_or}
 use Rattle.std.proofs.lemmas.Bool.{false≢true}
@@ -8,7 +8,7 @@ use Rattle.std.proofs.lemmas.List.{length-map}
 use Rattle.std.proofs.lemmas.List.Elements.{recursion_from_All}
 use Rattle.std.proofs.lemmas.Option.{slice_get-map}
 use Rattle.net_types.specs.Order.{same_text}
-use Rattle.net_types.specs.ConfigFacts.{IsConfig, IsBgp, IsMap, IsMapEntry, IsSets, IsRedistribute, IsDefined}
+use Rattle.net_types.specs.ConfigFacts.{IsBgp, IsMap, IsMapEntry, IsSets, IsRedistribute, IsDefined}
 use Rattle.net_types.specs.declared.config.RouterConfig.{RouterConfig}
 use Rattle.net_types.specs.declared.config.BgpConfig.{BgpConfig}
 use Rattle.net_types.specs.declared.config.PrefixList.{PrefixList}
