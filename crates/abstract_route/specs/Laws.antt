@@ -86,7 +86,7 @@ ExactIsRow =
     (route : Route) → route.weight < 2 ^ 64 → route.preference < 2 ^ 64 → length route.path < 2 ^ 64 → route.med < 2 ^ 64 →
     route.communities < 2 ^ 64 → All (λ x. x < 64) route.path → IsRow (exact_row route)
 
--- no other route fits it
+-- only routes like it fit it
 abbrev pub ExactFitsOne : Type 0
 ExactFitsOne = (route other : Route) → route.communities < 2 ^ 64 → Fits other (exact_row route) → IsLike other route
 

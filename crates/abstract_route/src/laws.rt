@@ -51,7 +51,7 @@ pub fn fits_law()
     ensures inhabited { FitIsInhabited }
 {}
 
-/// Each route has an exact row, the least that it fits, and no other route fits it.
+/// Each route has an exact row, the least that it fits, and only routes like it fit it.
 pub fn exact_law()
     ensures least { ExactIsLeast }
     ensures row { ExactIsRow }

@@ -1,4 +1,4 @@
--- Networks in which nobody originates a route: there nobody holds one.
+-- Networks in which nobody originates a route: there nobody holds one in a stable labelling.
 use Rattle.std.specs.Prelude.{ℕ, ◌≡◌, ◌<◌, false, List, Option, Some, None, All, replicate, slice_get}
 use Rattle.net_types.specs.declared.network.Owned.{Owned}
 use Rattle.net_types.specs.declared.network.Policy.TheVariants.{Closed}

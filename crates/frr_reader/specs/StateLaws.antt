@@ -1,4 +1,5 @@
--- What is true of the state behind a line: what is open is what the line names, and all else is as it was.
+-- What is true of the state behind a line: what is open is what the line names, and the other
+-- interfaces and entries of maps are as they were.
 use Rattle.std.specs.Prelude.{ℕ, ◌≡◌, ◌≢◌, IsSomeAnd, List, ◌∷◌, Some, Ok, slice_get}
 use Rattle.std.specs.List.Sorted.{IsPermutation}
 use Rattle.net_types.specs.declared.config.Interface.{Interface}

@@ -12,7 +12,8 @@ pub enum ReadRefusal {
     LineTooLong(u64),
     /// The line has the head of no row of the line table.
     Unsupported(u64),
-    /// The line has the head of a row, and of none that may stand there.
+    /// The line has the head of a row, and of none that may stand there, or is of a neighbor before its
+    /// `remote-as`.
     OutOfPlace(u64),
     /// What follows the head does not fit the row.
     BadValue(u64),

@@ -55,7 +55,7 @@ pub record HasAnswered (content : Content) (asked : Asked) (before : Seq ℕ) (a
   pub answer : IsAnswerOf content asked text status
   pub written : after ≡ Some (before ++ text)
 
--- there was no memory, and nothing was written
+-- the status is that of want of memory, and nothing was written
 pub record HasNoMemory (before : Seq ℕ) (after : Option (Seq ℕ)) (status : ℕ) : Type 0 where
   pub status_is : status ≡ 8
   pub written : after ≡ Some before
@@ -66,7 +66,8 @@ pub record HasUsage (before : Seq ℕ) (after : Option (Seq ℕ)) (status : ℕ)
   pub written : after ≡ Some (before ++ usage_line)
 
 -- what a run comes to over this content where its status is not that of a failure: a command answers with its
--- defined text and status, or had no memory and wrote nothing; other words are answered by the usage line
+-- defined text and status, or ends with the status of want of memory and wrote nothing; other words are answered by
+-- the usage line
 abbrev pub Answers : Content → Option Asked → Seq ℕ → Option (Seq ℕ) → ℕ → Type 0
 Answers content None before after status = HasUsage before after status
 Answers content (Some asked) before after status = HasAnswered content asked before after status ⊎ HasNoMemory before after status
@@ -96,7 +97,7 @@ abbrev pub IsWritten : ℕ → Seq ℕ → ℕ → ℕ → Option (Seq ℕ) → 
 IsWritten wanted text faults faults_now given given_now status =
     IsWhole wanted text faults faults_now given given_now status ⊎ IsCut text faults faults_now given given_now status
 
--- nothing was written, no call of the sink failed, and the status says that there was no memory
+-- nothing was written, no call of the sink failed, and the status is that of want of memory
 pub record IsSilent (faults faults_now : ℕ) (given given_now : Option (Seq ℕ)) (status : ℕ) : Type 0 where
   pub ends : status ≡ 8
   pub still : faults_now ≡ faults

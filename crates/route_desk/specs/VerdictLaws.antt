@@ -23,7 +23,7 @@ SureRoutesReach =
     AreDistances net prefix [] distances → ((x : ℕ) → is_learned (label_at labels x) ≡ false) → u < length net.routers →
     Reaches net prefix [] distances labels u ↔ HasSureRoute net prefix u
 
--- so in a network without sessions a property to reach that gets no certificate does not hold
+-- so in a network without sessions a property to reach that is not certified does not hold
 abbrev pub NotCertifiedFails : Type 0
 NotCertifiedFails =
     (net : NetValue) (property : Property) (failed : Seq ℕ) (broken : Broken) → IsNet net → HasNoSession net → property.kind ≡ Reach →

@@ -55,10 +55,11 @@ IsVerdict net property Certified = IsCertified net property
 IsVerdict net property (NotCertified failed broken) = IsNotCertified net property failed broken
 IsVerdict net property (NotApplicable bar) = barred net property ≡ Some bar
 
--- the prefixes of the properties that apply
+-- the property applies
 abbrev pub applies : NetValue → Property → Bool
 applies net property = is_none (barred net property)
 
+-- the prefixes of the properties that apply
 abbrev pub asked_prefixes : NetValue → Seq Property → Seq PrefixValue
 asked_prefixes net book = map (λ property. property.prefix) (filter (applies net) book)
 

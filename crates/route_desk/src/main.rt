@@ -3,7 +3,8 @@
 //! Decides: what the program's words ask, what a property file says, which verdict a property has, and the
 //! bytes of the report, of what `stable` answers, and of each refusal.
 //! Stands on: `outside` for files and output, `topology` for networks, `ospf_paths` for distances,
-//! `concrete_algebra` for stability, `label_file` and `toml_fields` for TOML files.
+//! `concrete_algebra` for stability, `failure_sets` for what a certificate means, `label_file` and
+//! `toml_fields` for TOML files.
 //! Promises: the clauses of `run`. Not: anything of real files but the causes of its statuses.
 #![tactic(auto)]
 

@@ -9,7 +9,7 @@ pub enum Kind {
     Reach,
     /// The router has no way to the prefix.
     Isolated,
-    /// The router's traffic for the prefix goes through the router of this host.
+    /// The router's traffic for the prefix, where it is delivered, goes through the router of this host.
     Waypoint(Text),
 }
 

@@ -4,7 +4,7 @@
 ghost use Rattle.route_desk.specs.VerdictLaws.{CasesAreAskedOnce, HoldsWithFewer, NotCertifiedFails, SureRoutesReach};
 
 /// With no failed link, and without learned labels, exactly the routers with a sure route reach; so in a network
-/// without sessions a property to reach that gets no certificate does not hold.
+/// without sessions a property to reach that is not certified does not hold.
 pub fn law_of_sure_routes()
     ensures reach { SureRoutesReach }
     ensures fails { NotCertifiedFails }
