@@ -1,5 +1,6 @@
 -- The laws of arcs, from those of the two ends of a session.
 use Rattle.std.proofs.Common.{ℕ, ◌≡◌, ◌≢◌, ◌<◌, ◌≤◌, ◌⊎◌, inl, inr, Bool, true, false, length, Option, Some, None, option_and_then, slice_get, arith, ap, sym, subst, ◌∙◌, refl, cond}
+use Rattle.net_types.specs.Routes.{sent_med}
 use Rattle.net_types.specs.declared.arcs.Arc.{Arc}
 use Rattle.net_types.specs.declared.network.End.{End}
 use Rattle.net_types.specs.declared.network.Link.{Link}
@@ -10,7 +11,7 @@ use Rattle.net_types.specs.NetValue.{NetValue}
 use Rattle.net_types.specs.PrefixValue.{PrefixValue}
 use Rattle.abstract_route.specs.declared.rows.Row.{Row}
 use Rattle.abstract_route.specs.Rows.{IsBelow, IsInhabited, IsRow, bottom, carried_row, inhabited}
-use Rattle.abstract_route.specs.Fits.{Fits, IsIn, exported_med}
+use Rattle.abstract_route.specs.Fits.{Fits, IsIn}
 use Rattle.abstract_route.proofs.FitLemmas.{carried_fits, carried_is_row, carried_up, fits_inhabited, inhabited_is, inhabited_up}
 use Rattle.abstract_route.proofs.HeightLemmas.{bottom_below, bottom_is_row}
 use Rattle.concrete_algebra.specs.Carrying.{carry_gives, export_gives, import_gives}
@@ -104,9 +105,9 @@ transfer_sound net prefix arc row sent route valid words session i carried short
 ]
 
 -- the source of what is carried
-carried_source : (net : NetValue) (prefix : PrefixValue) (arc : Arc) (t r : Route) → IsSession net prefix arc → carry_gives net prefix arc t ≡ Some r → exported_med r.source r.med ≡ 0
+carried_source : (net : NetValue) (prefix : PrefixValue) (arc : Arc) (t r : Route) → IsSession net prefix arc → carry_gives net prefix arc t ≡ Some r → sent_med r.source r.med ≡ 0
 carried_source net prefix arc t r s carried = go (export_gives net prefix arc t) carried where
-  go : (o : Option Route) → option_and_then (λ sent. import_gives net prefix arc sent) o ≡ Some r → exported_med r.source r.med ≡ 0
+  go : (o : Option Route) → option_and_then (λ sent. import_gives net prefix arc sent) o ≡ Some r → sent_med r.source r.med ≡ 0
   go None h = absurd (cc)
   go (Some sent) h = learned_med net prefix arc s.to sent r (sym (s.import_is sent) ∙ h)
 

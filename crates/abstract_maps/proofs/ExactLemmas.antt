@@ -4,6 +4,7 @@ use Rattle.std.specs.Int.{bit_not, w64}
 use Rattle.std.specs.Option.{is_some}
 use Rattle.std.proofs.lemmas.Bool.Decides.{nat_tests}
 use Rattle.std.proofs.lemmas.Nat.{pow_below}
+use Rattle.net_types.specs.Routes.{is_on}
 use Rattle.net_types.specs.declared.arcs.Arc.{Arc}
 use Rattle.net_types.specs.declared.network.End.{End}
 use Rattle.net_types.specs.declared.network.NetMapEntry.{NetMapEntry}
@@ -17,11 +18,11 @@ use Rattle.net_types.specs.PrefixValue.{PrefixValue}
 use Rattle.net_types.specs.Sets.{has}
 use Rattle.net_types.proofs.SetLemmas.{has_common, same_sets}
 use Rattle.abstract_route.specs.declared.rows.Row.{Row}
-use Rattle.abstract_route.specs.Fits.{exact_row, on_path, routers_of}
+use Rattle.abstract_route.specs.Fits.{exact_row, routers_of}
 use Rattle.abstract_route.specs.Rows.{IsInhabited, bottom, inhabited, single}
 use Rattle.abstract_route.proofs.FitLemmas.{exact_is_least, fits_inhabited, has-routers_of, inhabited_is}
 use Rattle.abstract_route.proofs.RowLemmas.{row_same}
-use Rattle.concrete_algebra.specs.Carrying.{as_received, holds_value, is_kept_home, is_on, learned_over, sent_by}
+use Rattle.concrete_algebra.specs.Carrying.{as_received, holds_value, is_kept_home, learned_over, sent_by}
 use Rattle.concrete_algebra.specs.Maps.{entries_give, entry_matches, map_entries, map_gives, under_sets}
 use Rattle.abstract_maps.specs.declared.statuses.Status.{Status}
 use Rattle.abstract_maps.specs.AbstractMap.{abstract_map, sure, sure_by, sure_entries, sure_policy}
@@ -139,12 +140,12 @@ less_none u set low small off = same_sets (less set u) set (λ x. elim (below_or
   outside : (h n : Bool) → h ≡ false → (h && n) ≡ h
   outside h n e = rw e refl
 
-received_met : (u : ℕ) (s : Route) → on_path u s.path ≡ true → received u (exact_row s) ≡ bottom
+received_met : (u : ℕ) (s : Route) → is_on u s.path ≡ true → received u (exact_row s) ≡ bottom
 unfolding received
 received_met u s on =
     ap (λ (b : Bool). cond b bottom (record (exact_row s) { weight = single 0; preference = single 100; may = less (routers_of s.path) u })) (has-routers_of s.path u ∙ on)
 
-received_exact : (u : ℕ) (s : Route) → u < 64 → routers_of s.path < 2 ^ 64 → on_path u s.path ≡ false → received u (exact_row s) ≡ exact_row (as_received s)
+received_exact : (u : ℕ) (s : Route) → u < 64 → routers_of s.path < 2 ^ 64 → is_on u s.path ≡ false → received u (exact_row s) ≡ exact_row (as_received s)
 unfolding received
 received_exact u s low small off =
     let e : has (routers_of s.path) u ≡ false = has-routers_of s.path u ∙ off in
@@ -152,7 +153,7 @@ received_exact u s low small off =
     row_same (record (exact_row s) { weight = single 0; preference = single 100; may = less (routers_of s.path) u }) (exact_row (as_received s))
     refl refl refl refl refl refl refl (less_none u (routers_of s.path) low small e) refl
 
-free_exact : (u : ℕ) (s : Route) → u < 64 → routers_of s.path < 2 ^ 64 → on_path u s.path ≡ false → received_free u (exact_row s) ≡ exact_row (as_received s)
+free_exact : (u : ℕ) (s : Route) → u < 64 → routers_of s.path < 2 ^ 64 → is_on u s.path ≡ false → received_free u (exact_row s) ≡ exact_row (as_received s)
 unfolding received_free
 free_exact u s low small off =
     let e : has (routers_of s.path) u ≡ false = has-routers_of s.path u ∙ off in
@@ -228,13 +229,13 @@ between_exact net prefix arc from to t valid from_in to_in w short =
 -- ---- where the receiver is not on the path
 
 -- what is sent has the receiver on its path only where the route had
-off_sent : (net : NetValue) (prefix : PrefixValue) (from to : End) (t m : Route) → IsNet net → from.router < length net.routers → to.router ≢ from.router → on_path to.router t.path ≡ false →
-    map_gives net from.router from.export prefix (as_sent t) ≡ Some m → on_path to.router (sent_by from.router m).path ≡ false
-off_sent net prefix from to t m valid inside apart off is = go (on_path to.router (sent_by from.router m).path) refl where
-  behind : on_path to.router (from.router ∷ m.path) ≡ true → (to.router ≡ from.router) ⊎ (on_path to.router m.path ≡ true)
+off_sent : (net : NetValue) (prefix : PrefixValue) (from to : End) (t m : Route) → IsNet net → from.router < length net.routers → to.router ≢ from.router → is_on to.router t.path ≡ false →
+    map_gives net from.router from.export prefix (as_sent t) ≡ Some m → is_on to.router (sent_by from.router m).path ≡ false
+off_sent net prefix from to t m valid inside apart off is = go (is_on to.router (sent_by from.router m).path) refl where
+  behind : is_on to.router (from.router ∷ m.path) ≡ true → (to.router ≡ from.router) ⊎ (is_on to.router m.path ≡ true)
   behind e = grind (arith, nat_tests)
 
-  go : (b : Bool) → on_path to.router (sent_by from.router m).path ≡ b → b ≡ false
+  go : (b : Bool) → is_on to.router (sent_by from.router m).path ≡ b → b ≡ false
   go false e = refl
   go true e = absurd (elim (behind e) [
     | inl same ↦ apart same
@@ -248,13 +249,13 @@ learned_some : (arc : Arc) (o : Option Route) → is_some o ≡ is_some (option_
 learned_some arc None = refl
 learned_some arc (Some m) = refl
 
-taken_some : (net : NetValue) (prefix : PrefixValue) (arc : Arc) (to : End) (s : Route) → on_path to.router s.path ≡ false → is_some (map_gives net to.router to.import prefix (as_received s)) ≡ is_some (takes net prefix arc to s)
+taken_some : (net : NetValue) (prefix : PrefixValue) (arc : Arc) (to : End) (s : Route) → is_on to.router s.path ≡ false → is_some (map_gives net to.router to.import prefix (as_received s)) ≡ is_some (takes net prefix arc to s)
 taken_some net prefix arc to s off =
     learned_some arc (map_gives net to.router to.import prefix (as_received s)) ∙
     ap (λ (b : Bool). is_some (cond b None (option_map (learned_over arc) (map_gives net to.router to.import prefix (as_received s))))) (sym off)
 
 pub passes_exact : (net : NetValue) (prefix : PrefixValue) (arc : Arc) (from to : End) (t : Route) → IsNet net → from.router < length net.routers → to.router < length net.routers → to.router ≢ from.router → HasWords (exact_row (as_sent t)) →
-    on_path to.router t.path ≡ false → passes_between net prefix from to (exact_row (as_sent t)) ≡ is_some (comes net prefix arc from to t)
+    is_on to.router t.path ≡ false → passes_between net prefix from to (exact_row (as_sent t)) ≡ is_some (comes net prefix arc from to t)
 passes_exact net prefix arc from to t valid from_in to_in apart w off =
     ap (λ (b : Bool). b && surely_leaves net (exact_row (as_sent t)) && sure net from.router from.export prefix (exact_row (as_sent t)) && surely_taken)
     ((inhabited_is (exact_row (as_sent t))).1 (exact_inhabited (as_sent t) w.has)) ∙
@@ -295,7 +296,7 @@ inhabited_imported net prefix to x valid inside w =
     inhabited_cut (longest net) (map_gives net to.router to.import prefix x) (given_masked net to.router to.import prefix x valid inside w)
 
 pub opens_exact : (net : NetValue) (prefix : PrefixValue) (arc : Arc) (from to : End) (t : Route) → IsNet net → from.router < length net.routers → to.router < length net.routers → to.router ≢ from.router → HasWords (exact_row (as_sent t)) →
-    on_path to.router t.path ≡ false → inhabited (between_free net prefix from to (exact_row (as_sent t))) ≡ is_some (comes net prefix arc from to t)
+    is_on to.router t.path ≡ false → inhabited (between_free net prefix from to (exact_row (as_sent t))) ≡ is_some (comes net prefix arc from to t)
 opens_exact net prefix arc from to t valid from_in to_in apart w off =
     ap (λ (row : Row). inhabited (imported net prefix to (received_free to.router row))) (exported_exact net prefix from t valid from_in w) ∙
     step (is_kept_home net t.communities) (map_gives net from.router from.export prefix (as_sent t)) refl refl where

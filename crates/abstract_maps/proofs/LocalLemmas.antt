@@ -12,12 +12,13 @@ use Rattle.net_types.specs.declared.routes.Route.{Route}
 use Rattle.net_types.specs.NetFacts.{IsNet, IsNetMapEntry, IsRouter}
 use Rattle.net_types.specs.NetValue.{NetValue}
 use Rattle.net_types.specs.PrefixValue.{PrefixValue}
+use Rattle.net_types.specs.Owners.{entry_of}
 use Rattle.abstract_route.specs.declared.rows.Row.{Row}
 use Rattle.abstract_route.specs.Rows.{IsInhabited, IsRow, bottom}
 use Rattle.abstract_route.specs.Fits.{IsExact, exact_row}
 use Rattle.abstract_route.proofs.FitLemmas.{exact_is_least, exact_is_row, fits_inhabited}
 use Rattle.abstract_route.proofs.HeightLemmas.{bottom_is_row}
-use Rattle.concrete_algebra.specs.LocalRoutes.{entry_of, local_of, originated}
+use Rattle.concrete_algebra.specs.LocalRoutes.{local_of, originated}
 use Rattle.concrete_algebra.specs.Maps.{entries_give, entry_matches, map_entries, map_gives, under_sets}
 use Rattle.abstract_maps.specs.declared.statuses.Status.{Status}
 use Rattle.abstract_maps.specs.declared.statuses.Status.TheVariants.{No, Maybe, Yes}

@@ -3,6 +3,7 @@
 use Rattle.std.proofs.Common.{ℕ, ◌≡◌, ◌<◌, ◌^◌, ◌⊎◌, inl, inr, Bool, true, false, List, [], ◌∷◌, length, Option, Some, None, All, slice_get, arith, ap, sym, subst, ◌∙◌, refl, cond}
 use Rattle.std.proofs.lemmas.List.Elements.{All-head, All-tail}
 use Rattle.std.proofs.lemmas.Option.{slice_get_cases}
+use Rattle.net_types.specs.Routes.{is_on}
 use Rattle.net_types.specs.declared.network.NetMapEntry.{NetMapEntry}
 use Rattle.net_types.specs.declared.network.Policy.{Policy}
 use Rattle.net_types.specs.declared.network.Policy.TheVariants.{Closed, Open, Map}
@@ -13,7 +14,7 @@ use Rattle.net_types.specs.NetValue.{NetValue}
 use Rattle.net_types.specs.PrefixValue.{PrefixValue}
 use Rattle.abstract_route.specs.declared.rows.Row.{Row}
 use Rattle.abstract_route.specs.Rows.{IsBelow, IsInhabited, bottom, inhabited, joined}
-use Rattle.abstract_route.specs.Fits.{Fits, exact_row, on_path}
+use Rattle.abstract_route.specs.Fits.{Fits, exact_row}
 use Rattle.abstract_route.proofs.FitLemmas.{exact_is_least, fits_below, fits_inhabited, inhabited_is, inhabited_up}
 use Rattle.abstract_route.proofs.RowLemmas.{below_refl, below_trans, join_left, join_least, join_right}
 use Rattle.concrete_algebra.specs.Maps.{entries_give, entry_gives, entry_matches, map_entries, map_gives, under_sets}
@@ -149,13 +150,13 @@ entries_exact count router u prefix (e ∷ es) t ok all small =
       step false permit later behind is = is
 
 -- what is on the path of what a map gives
-entries_path : (router : Router) (u : ℕ) (prefix : PrefixValue) (es : List NetMapEntry) (t r : Route) (x : ℕ) → entries_give router u prefix es t ≡ Some r → on_path x r.path ≡ true → (x ≡ u) ⊎ (on_path x t.path ≡ true)
+entries_path : (router : Router) (u : ℕ) (prefix : PrefixValue) (es : List NetMapEntry) (t r : Route) (x : ℕ) → entries_give router u prefix es t ≡ Some r → is_on x r.path ≡ true → (x ≡ u) ⊎ (is_on x t.path ≡ true)
 unfolding entries_give under_sets
 entries_path router u prefix [] t r x gives on = absurd (cc)
 entries_path router u prefix (e ∷ es) t r x gives on =
     step (entry_matches router prefix e t.communities) e.permit gives (λ g. entries_path router u prefix es t r x g on) where
       step : (matches permit : Bool) → cond matches (cond permit (Some (under_sets router u e.sets t)) None) (entries_give router u prefix es t) ≡ Some r →
-          (entries_give router u prefix es t ≡ Some r → (x ≡ u) ⊎ (on_path x t.path ≡ true)) → (x ≡ u) ⊎ (on_path x t.path ≡ true)
+          (entries_give router u prefix es t ≡ Some r → (x ≡ u) ⊎ (is_on x t.path ≡ true)) → (x ≡ u) ⊎ (is_on x t.path ≡ true)
       step true true g behind = front_cases x u e.sets.prepend t.path (let f : under_sets router u e.sets t ≡ r = some_same (under_sets router u e.sets t) r g in rw (← f) at on)
       step true false g behind = absurd (cc)
       step false permit g behind = behind g
@@ -262,10 +263,10 @@ map_exact net u policy prefix t valid inside small =
           entries_exact (length net.communities) at.router u prefix (map_entries at.router position) t at.ok (entries_at (length net.communities) at.router position at.ok) small ∙
           ap exact_or_bottom (sym (gives_in net u position prefix t at))
 
-pub map_path : (net : NetValue) (u : ℕ) (policy : Policy) (prefix : PrefixValue) (t r : Route) (x : ℕ) → IsNet net → u < length net.routers → map_gives net u policy prefix t ≡ Some r → on_path x r.path ≡ true → (x ≡ u) ⊎ (on_path x t.path ≡ true)
+pub map_path : (net : NetValue) (u : ℕ) (policy : Policy) (prefix : PrefixValue) (t r : Route) (x : ℕ) → IsNet net → u < length net.routers → map_gives net u policy prefix t ≡ Some r → is_on x r.path ≡ true → (x ≡ u) ⊎ (is_on x t.path ≡ true)
 unfolding map_gives
 map_path net u policy prefix t r x valid inside gives on = let at = router_at net u valid inside in go policy at gives where
-  go : (policy : Policy) (at : IsAt net u) → map_gives net u policy prefix t ≡ Some r → (x ≡ u) ⊎ (on_path x t.path ≡ true)
+  go : (policy : Policy) (at : IsAt net u) → map_gives net u policy prefix t ≡ Some r → (x ≡ u) ⊎ (is_on x t.path ≡ true)
   go Closed at gives = absurd (cc)
   go Open at gives = inr (let e : t ≡ r = some_same t r gives in rw (← e) at on)
   go (Map position) at gives = entries_path at.router u prefix (map_entries at.router position) t r x (sym (gives_in net u position prefix t at) ∙ gives) on

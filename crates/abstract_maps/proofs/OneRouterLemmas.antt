@@ -75,7 +75,7 @@ pub net_is : (a : Router) (links : List Link) (notices : List Notice) → links 
 net_is a links notices e f valid = rw (e, f) (record {
   few_routers = lit≤ tt;
   hosts = one_pair (λ (x y : Router). text_before x.host y.host ≡ true) a;
-  systems = one_pair (λ (x y : Router). AreApart x.asn y.asn) a;
+  asns = one_pair (λ (x y : Router). AreApart x.asn y.asn) a;
   routers = all_one (IsRouter 2) a valid;
   few_links = lit≤ tt;
   subnets = λ i j d x y. absurd (omega arith);

@@ -4,6 +4,7 @@ use Rattle.std.proofs.Common.{ℕ, zero, suc, ◌≡◌, ◌<◌, ◌≤◌, ◌
 use Rattle.std.specs.Int.{bit_not, w64}
 use Rattle.std.proofs.lemmas.Bool.Decides.{nat_tests}
 use Rattle.std.proofs.lemmas.Nat.{or_lt, and_le_l, pow_below}
+use Rattle.net_types.specs.Routes.{is_on}
 use Rattle.net_types.specs.declared.config.Origin.{Origin}
 use Rattle.net_types.specs.declared.network.NetSets.{NetSets}
 use Rattle.net_types.specs.declared.network.NetSetCommunity.{NetSetCommunity}
@@ -17,7 +18,7 @@ use Rattle.net_types.proofs.SetLemmas.{has_union, has_common, same_sets}
 use Rattle.abstract_route.specs.declared.rows.Row.{Row}
 use Rattle.abstract_route.specs.declared.rows.Range.{Range}
 use Rattle.abstract_route.specs.Rows.{IsBelow, IsInhabited, IsSome, Lies, single}
-use Rattle.abstract_route.specs.Fits.{Fits, Holds, LacksRest, PassesAll, StaysIn, exact_row, on_path, routers_of}
+use Rattle.abstract_route.specs.Fits.{Fits, Holds, LacksRest, PassesAll, StaysIn, exact_row, routers_of}
 use Rattle.abstract_route.proofs.FitLemmas.{has-routers_of}
 use Rattle.abstract_route.proofs.RowLemmas.{part_refl, row_same}
 use Rattle.concrete_algebra.specs.Maps.{community_entries, deleted_by, under_sets, with_set, without_deleted}
@@ -61,15 +62,15 @@ origin_single (Some m) n = refl
 
 -- ---- the path
 
-pub front_cases : (x u k : ℕ) (path : List ℕ) → on_path x (replicate k u ++ path) ≡ true → (x ≡ u) ⊎ (on_path x path ≡ true)
+pub front_cases : (x u k : ℕ) (path : List ℕ) → is_on x (replicate k u ++ path) ≡ true → (x ≡ u) ⊎ (is_on x path ≡ true)
 front_cases x u zero path on = inr on
 front_cases x u (suc k) path on = let i = front_cases x u k path in grind (arith, nat_tests)
 
-front_behind : (x u k : ℕ) (path : List ℕ) → on_path x path ≡ true → on_path x (replicate k u ++ path) ≡ true
+front_behind : (x u k : ℕ) (path : List ℕ) → is_on x path ≡ true → is_on x (replicate k u ++ path) ≡ true
 front_behind x u zero path on = on
 front_behind x u (suc k) path on = let i = front_behind x u k path on in grind (arith, nat_tests)
 
-front_first : (u k : ℕ) (path : List ℕ) → 0 < k → on_path u (replicate k u ++ path) ≡ true
+front_first : (u k : ℕ) (path : List ℕ) → 0 < k → is_on u (replicate k u ++ path) ≡ true
 front_first u zero path h = absurd (omega arith)
 front_first u (suc k) path h = grind (arith, nat_tests)
 
@@ -129,8 +130,8 @@ routers-front k u path = same_sets (with_router k u (routers_of path)) (routers_
   | added_none none e ↦ e ∙ (rw none refl)
   | added_one some e ↦ e ∙ ap (λ (b : Bool). b || (x == u)) (has-routers_of path x) ∙ front_on x some ∙ sym (has-routers_of (replicate k u ++ path) x)
 ]) where
-  front_on : (x : ℕ) → 0 < k → (on_path x path || (x == u)) ≡ on_path x (replicate k u ++ path)
-  front_on x some = same (on_path x path) (x == u) (on_path x (replicate k u ++ path)) (front_behind x u k path) (λ e. let f : x ≡ u = grind (arith, nat_tests) in rw f (front_first u k path some)) (λ on. let c = front_cases x u k path on in grind (arith, nat_tests)) where
+  front_on : (x : ℕ) → 0 < k → (is_on x path || (x == u)) ≡ is_on x (replicate k u ++ path)
+  front_on x some = same (is_on x path) (x == u) (is_on x (replicate k u ++ path)) (front_behind x u k path) (λ e. let f : x ≡ u = grind (arith, nat_tests) in rw f (front_first u k path some)) (λ on. let c = front_cases x u k path on in grind (arith, nat_tests)) where
     same : (p q r : Bool) → (p ≡ true → r ≡ true) → (q ≡ true → r ≡ true) → (r ≡ true → (p || q) ≡ true) → (p || q) ≡ r
     same true q r f g h = sym (f refl)
     same false true r f g h = sym (g refl)

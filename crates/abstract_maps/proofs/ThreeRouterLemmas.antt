@@ -217,7 +217,7 @@ pub three_are : (a b c : Router) (notices : List Notice) → notices ≡ [] → 
 three_are a b c notices none ha hb hc sa sb ma mb mc va vb vc = rw none (record {
   few_routers = lit≤ tt;
   hosts = each_pair (λ (x y : Router). text_before x.host y.host ≡ true) a b c (before a b (97 ∷ []) (98 ∷ []) ha hb refl) (before a c (97 ∷ []) (100 ∷ []) ha hc refl) (before b c (98 ∷ []) (100 ∷ []) hb hc refl);
-  systems = each_pair (λ (x y : Router). AreApart x.asn y.asn) a b c (apart a b sa) (apart a c sa) (apart b c sb);
+  asns = each_pair (λ (x y : Router). AreApart x.asn y.asn) a b c (apart a b sa) (apart a c sa) (apart b c sb);
   routers = all_three (IsRouter 4) a b c va vb vc;
   few_links = lit≤ tt;
   subnets = ascending_are (map to_link sides) refl;

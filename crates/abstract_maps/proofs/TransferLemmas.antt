@@ -6,20 +6,20 @@ use Rattle.std.specs.Option.{option_map_or}
 use Rattle.std.proofs.lemmas.Bool.Decides.{nat_tests}
 use Rattle.std.proofs.lemmas.List.Sums.{fails_before_first}
 use Rattle.std.proofs.lemmas.Nat.{or_lt, pow_below}
+use Rattle.net_types.specs.Numbering.{community_number}
+use Rattle.net_types.specs.Routes.{is_on, sent_med}
 use Rattle.net_types.specs.declared.arcs.Arc.{Arc}
 use Rattle.net_types.specs.declared.network.End.{End}
 use Rattle.net_types.specs.declared.routes.Route.{Route}
-use Rattle.net_types.specs.declared.routes.Source.{Source}
-use Rattle.net_types.specs.declared.routes.Source.TheVariants.{Local, Learned}
 use Rattle.net_types.specs.NetFacts.{IsNet, no_advertise, no_export}
 use Rattle.net_types.specs.NetValue.{NetValue}
 use Rattle.net_types.specs.PrefixValue.{PrefixValue}
 use Rattle.net_types.specs.Sets.{has, IsPart}
 use Rattle.abstract_route.specs.declared.rows.Row.{Row}
 use Rattle.abstract_route.specs.Rows.{IsInhabited, IsRow, bottom, inhabited, single}
-use Rattle.abstract_route.specs.Fits.{Fits, IsIn, LacksRest, exported_med, on_path}
+use Rattle.abstract_route.specs.Fits.{Fits, IsIn, LacksRest}
 use Rattle.abstract_route.proofs.FitLemmas.{fits_inhabited, inhabited_is}
-use Rattle.concrete_algebra.specs.Carrying.{as_received, community_number, holds_value, is_kept_home, is_on, learned_over, sent_by, sent_med}
+use Rattle.concrete_algebra.specs.Carrying.{as_received, holds_value, is_kept_home, learned_over, sent_by}
 use Rattle.concrete_algebra.specs.Maps.{map_gives}
 use Rattle.abstract_maps.specs.AbstractMap.{abstract_map, sure}
 use Rattle.abstract_maps.specs.Transfer.{between, cut_row, exported, imported, less, longest, may_leave, passes_between, received, received_free, row_sent_by, surely_leaves}
@@ -117,17 +117,9 @@ sent_fits v t row f = let e = (inhabited_is row).1 (fits_inhabited t row f) in r
   must = must_passes 1 v row.must t.path f.must;
 })
 
--- the two words for the MED that is sent are one
-pub sent_same : (s : Source) (m : ℕ) → exported_med s m ≡ sent_med s m
-sent_same Local m = refl
-sent_same (Learned arc) m = refl
-
 -- the route as its export policy sees it
 abbrev pub as_sent : Route → Route
 as_sent t = record t { med = sent_med t.source t.med }
-
-pub sent_in : (t : Route) (row : Row) → IsIn t row → Fits (as_sent t) row
-sent_in t row i = subst (λ (m : ℕ). Fits (record t { med = m }) row) (sent_same t.source t.med) i
 
 -- what an end sends, as a term over its parts
 abbrev pub sends : NetValue → PrefixValue → End → Route → Option Route
@@ -139,12 +131,12 @@ exported_sound net prefix from row t s valid inside i g = home (is_kept_home net
   mapped : (o : Option Route) → map_gives net from.router from.export prefix (as_sent t) ≡ o → option_map (sent_by from.router) o ≡ Some s → Fits s (row_sent_by from.router (abstract_map net from.router from.export prefix row))
   mapped None is h = absurd (cc)
   mapped (Some m) is h = subst (λ (x : Route). Fits x (row_sent_by from.router (abstract_map net from.router from.export prefix row))) (some_same (sent_by from.router m) s h)
-      (sent_fits from.router m (abstract_map net from.router from.export prefix row) (map_sound net from.router from.export prefix row (as_sent t) m valid inside (sent_in t row i) is))
+      (sent_fits from.router m (abstract_map net from.router from.export prefix row) (map_sound net from.router from.export prefix row (as_sent t) m valid inside i is))
 
   home : (b : Bool) → is_kept_home net t.communities ≡ b → cond b None (option_map (sent_by from.router) (map_gives net from.router from.export prefix (as_sent t))) ≡ Some s →
       Fits s (cond (may_leave net row) (row_sent_by from.router (abstract_map net from.router from.export prefix row)) bottom)
   home true e h = absurd (cc)
-  home false e h = let f = leaves net t.communities row valid (sent_in t row i).lacked e in rw f (mapped (map_gives net from.router from.export prefix (as_sent t)) refl h)
+  home false e h = let f = leaves net t.communities row valid i.lacked e in rw f (mapped (map_gives net from.router from.export prefix (as_sent t)) refl h)
 
 sent_words : (v : ℕ) (row : Row) → v < 64 → HasWords row → HasWords (row_sent_by v row)
 unfolding row_sent_by
@@ -172,24 +164,24 @@ exported_words net prefix from row valid inside w = go (may_leave net row) where
 -- ---- what the receiver begins with
 
 -- a router on the path that is not the receiver stays in the set without it
-stays_less : (u may x : ℕ) (path : List ℕ) → u < 64 → x < 64 → on_path u path ≡ false → on_path x path ≡ true → has may x ≡ true → has (less may u) x ≡ true
+stays_less : (u may x : ℕ) (path : List ℕ) → u < 64 → x < 64 → is_on u path ≡ false → is_on x path ≡ true → has may x ≡ true → has (less may u) x ≡ true
 stays_less u may x path low small off on m =
     has_minus may (2 ^ u) x (pow_below u 64 low) small ∙
     step (has may x) (has (2 ^ u) x) (x == u) (has_single u x) m (differs (x == u) refl) where
       differs : (b : Bool) → (x == u) ≡ b → b ≡ false
-      differs true e = absurd (let f : x ≡ u = grind (arith, nat_tests) in let g : on_path u path ≡ true = rw (← f) on in cc)
+      differs true e = absurd (let f : x ≡ u = grind (arith, nat_tests) in let g : is_on u path ≡ true = rw (← f) on in cc)
       differs false e = refl
 
       step : (h s b : Bool) → s ≡ b → h ≡ true → b ≡ false → (h && not s) ≡ true
       step h s b e f g = rw (e, f, g) refl
 
-small_on : (t : Route) (row : Row) (x : ℕ) → row.may < 2 ^ 64 → Fits t row → on_path x t.path ≡ true → x < 64
+small_on : (t : Route) (row : Row) (x : ℕ) → row.may < 2 ^ 64 → Fits t row → is_on x t.path ≡ true → x < 64
 small_on t row x small f on = elim (below_or_not x 64) [
   | inl low ↦ low
   | inr high ↦ absurd (let m = f.may x on in let e = small_above row.may x small high in cc)
 ]
 
-received_sound : (u : ℕ) (t : Route) (row : Row) → u < 64 → row.may < 2 ^ 64 → Fits t row → on_path u t.path ≡ false → Fits (as_received t) (received u row)
+received_sound : (u : ℕ) (t : Route) (row : Row) → u < 64 → row.may < 2 ^ 64 → Fits t row → is_on u t.path ≡ false → Fits (as_received t) (received u row)
 unfolding received
 received_sound u t row low small f off = go (has row.must u) refl where
   go : (b : Bool) → has row.must u ≡ b → Fits (as_received t) (cond b bottom (record row { weight = single 0; preference = single 100; may = less row.may u }))
@@ -206,7 +198,7 @@ received_sound u t row low small f off = go (has row.must u) refl where
     must = f.must;
   }
 
-received_free_sound : (u : ℕ) (t : Route) (row : Row) → u < 64 → row.may < 2 ^ 64 → Fits t row → on_path u t.path ≡ false → Fits (as_received t) (received_free u row)
+received_free_sound : (u : ℕ) (t : Route) (row : Row) → u < 64 → row.may < 2 ^ 64 → Fits t row → is_on u t.path ≡ false → Fits (as_received t) (received_free u row)
 unfolding received_free
 received_free_sound u t row low small f off = record {
   weight = (omega arith, omega arith);
@@ -260,13 +252,13 @@ abbrev pub takes : NetValue → PrefixValue → Arc → End → Route → Option
 takes net prefix arc to s = cond (is_on to.router s.path) None (option_map (learned_over arc) (map_gives net to.router to.import prefix (as_received s)))
 
 -- what is taken in is learned, and its MED is carried no further
-pub learned_med : (net : NetValue) (prefix : PrefixValue) (arc : Arc) (to : End) (s r : Route) → takes net prefix arc to s ≡ Some r → exported_med r.source r.med ≡ 0
+pub learned_med : (net : NetValue) (prefix : PrefixValue) (arc : Arc) (to : End) (s r : Route) → takes net prefix arc to s ≡ Some r → sent_med r.source r.med ≡ 0
 learned_med net prefix arc to s r taken = loop (is_on to.router s.path) taken where
-  mapped : (o : Option Route) → option_map (learned_over arc) o ≡ Some r → exported_med r.source r.med ≡ 0
+  mapped : (o : Option Route) → option_map (learned_over arc) o ≡ Some r → sent_med r.source r.med ≡ 0
   mapped None h = absurd (cc)
-  mapped (Some m) h = sym (ap (λ (x : Route). exported_med x.source x.med) (some_same (learned_over arc m) r h))
+  mapped (Some m) h = sym (ap (λ (x : Route). sent_med x.source x.med) (some_same (learned_over arc m) r h))
 
-  loop : (b : Bool) → cond b None (option_map (learned_over arc) (map_gives net to.router to.import prefix (as_received s))) ≡ Some r → exported_med r.source r.med ≡ 0
+  loop : (b : Bool) → cond b None (option_map (learned_over arc) (map_gives net to.router to.import prefix (as_received s))) ≡ Some r → sent_med r.source r.med ≡ 0
   loop true h = absurd (cc)
   loop false h = mapped (map_gives net to.router to.import prefix (as_received s)) h
 
@@ -281,7 +273,7 @@ between_sound net prefix arc from to row t s r valid from_in to_in words i sent 
   small : HasWords (exported net prefix from row)
   small = exported_words net prefix from row valid from_in (words_of row words)
 
-  mapped : on_path to.router s.path ≡ false → (o : Option Route) → map_gives net to.router to.import prefix (as_received s) ≡ o → option_map (learned_over arc) o ≡ Some r → Fits r (between net prefix from to row)
+  mapped : is_on to.router s.path ≡ false → (o : Option Route) → map_gives net to.router to.import prefix (as_received s) ≡ o → option_map (learned_over arc) o ≡ Some r → Fits r (between net prefix from to row)
   mapped off None is h = absurd (cc)
   mapped off (Some m) is h =
       let same = some_same (learned_over arc m) r h in
@@ -300,7 +292,7 @@ between_sound net prefix arc from to row t s r valid from_in to_in words i sent 
 -- something is sent and taken in, or the receiver is on the path that is sent
 pub data Surely (net : NetValue) (prefix : PrefixValue) (arc : Arc) (from to : End) (t : Route) : Type 0 where
   surely_taken : (s r : Route) → sends net prefix from t ≡ Some s → takes net prefix arc to s ≡ Some r → Surely net prefix arc from to t
-  surely_met : (on_path to.router t.path ≡ true) → Surely net prefix arc from to t
+  surely_met : (is_on to.router t.path ≡ true) → Surely net prefix arc from to t
 
 -- the parts of a test of four
 four : (a b c d : Bool) → (a && b && c && d) ≡ true → (a ≡ true) × (b ≡ true) × (c ≡ true) × (d ≡ true)
@@ -329,7 +321,7 @@ between_sure net prefix arc from to row t valid from_in to_in apart words i p = 
   small : HasWords (exported net prefix from row)
   small = exported_words net prefix from row valid from_in (words_of row words)
 
-  on_sent : (m : Route) → map_gives net from.router from.export prefix (as_sent t) ≡ Some m → on_path to.router (sent_by from.router m).path ≡ true → on_path to.router t.path ≡ true
+  on_sent : (m : Route) → map_gives net from.router from.export prefix (as_sent t) ≡ Some m → is_on to.router (sent_by from.router m).path ≡ true → is_on to.router t.path ≡ true
   on_sent m is on = elim (behind on) [
     | inl same ↦ absurd (apart same)
     | inr more ↦ elim (map_path net from.router from.export prefix (as_sent t) m to.router valid from_in is more) [
@@ -337,10 +329,10 @@ between_sure net prefix arc from to row t valid from_in to_in apart words i p = 
       | inr old ↦ old
     ]
   ] where
-    behind : on_path to.router (from.router ∷ m.path) ≡ true → (to.router ≡ from.router) ⊎ (on_path to.router m.path ≡ true)
+    behind : is_on to.router (from.router ∷ m.path) ≡ true → (to.router ≡ from.router) ⊎ (is_on to.router m.path ≡ true)
     behind e = grind (arith, nat_tests)
 
-  take : (s : Route) → sends net prefix from t ≡ Some s → (on_path to.router s.path ≡ true → on_path to.router t.path ≡ true) →
+  take : (s : Route) → sends net prefix from t ≡ Some s → (is_on to.router s.path ≡ true → is_on to.router t.path ≡ true) →
       sure net to.router to.import prefix (received_free to.router (exported net prefix from row)) ≡ true → Surely net prefix arc from to t
   take s sent back sure_import = loop (is_on to.router s.path) refl where
     loop : (b : Bool) → is_on to.router s.path ≡ b → Surely net prefix arc from to t
@@ -352,6 +344,6 @@ between_sure net prefix arc from to row t valid from_in to_in apart words i p = 
 
   begin : PassesParts net prefix from to row → Surely net prefix arc from to t
   begin parts =
-      let g = sure_gives net from.router from.export prefix row (as_sent t) valid from_in (sent_in t row i) parts.export_sure in
-      let home = leaves_surely net (as_sent t) row valid (sent_in t row i) parts.leaves in
+      let g = sure_gives net from.router from.export prefix row (as_sent t) valid from_in i parts.export_sure in
+      let home = leaves_surely net (as_sent t) row valid i parts.leaves in
       take (sent_by from.router g.0) (let a = home in let b = g.1 in rw (a, b) refl) (on_sent g.0 g.1) parts.import_sure

@@ -1,15 +1,15 @@
 -- What a policy makes of a row, and when it surely lets every route of the row through. The project's own.
 use Rattle.std.specs.Prelude.{ℕ, ◌&&◌, Bool, true, false, List, [], ◌∷◌, if◌then◌else◌, slice_get, ◌<◌, ◌^◌}
 use Rattle.std.specs.Option.{option_map_or}
-use Rattle.abstract_route.specs.declared.rows.Row.{Row}
-use Rattle.abstract_route.specs.Rows.{IsInhabited, joined, inhabited, bottom}
-use Rattle.concrete_algebra.specs.Maps.{map_entries}
 use Rattle.net_types.specs.declared.network.Router.{Router}
 use Rattle.net_types.specs.declared.network.NetMapEntry.{NetMapEntry}
 use Rattle.net_types.specs.declared.network.Policy.{Policy}
 use Rattle.net_types.specs.declared.network.Policy.TheVariants.{Closed, Open, Map}
 use Rattle.net_types.specs.NetValue.{NetValue}
 use Rattle.net_types.specs.PrefixValue.{PrefixValue}
+use Rattle.abstract_route.specs.declared.rows.Row.{Row}
+use Rattle.abstract_route.specs.Rows.{IsInhabited, joined, inhabited, bottom}
+use Rattle.concrete_algebra.specs.Maps.{map_entries}
 use Rattle.abstract_maps.specs.declared.statuses.Status.{Status}
 use Rattle.abstract_maps.specs.declared.statuses.Status.TheVariants.{No, Maybe, Yes}
 use Rattle.abstract_maps.specs.RowSets.{row_under_sets}

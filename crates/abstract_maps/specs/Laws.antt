@@ -1,11 +1,6 @@
 -- What is true of the abstract maps and transfers of every network.
 use Rattle.std.specs.Prelude.{ℕ, ◌≡◌, ◌<◌, ◌≤◌, ◌+◌, ◌^◌, ◌⊎◌, true, false, length, Some, Option, IfSome}
-use Rattle.abstract_route.specs.declared.rows.Row.{Row}
-use Rattle.abstract_route.specs.Fits.{Fits, IsExact, IsIn, on_path}
-use Rattle.abstract_route.specs.Rows.{IsBelow, IsInhabited, IsRow, bottom}
-use Rattle.concrete_algebra.specs.Carrying.{carry_gives}
-use Rattle.concrete_algebra.specs.LocalRoutes.{local_of}
-use Rattle.concrete_algebra.specs.Maps.{map_gives}
+use Rattle.net_types.specs.Routes.{is_on}
 use Rattle.net_types.specs.declared.arcs.Arc.{Arc}
 use Rattle.net_types.specs.declared.network.Policy.{Policy}
 use Rattle.net_types.specs.declared.routes.Route.{Route}
@@ -13,6 +8,12 @@ use Rattle.net_types.specs.Arcs.{is_session, receiver_of}
 use Rattle.net_types.specs.NetFacts.{IsNet}
 use Rattle.net_types.specs.NetValue.{NetValue}
 use Rattle.net_types.specs.PrefixValue.{PrefixValue}
+use Rattle.abstract_route.specs.declared.rows.Row.{Row}
+use Rattle.abstract_route.specs.Fits.{Fits, IsExact, IsIn}
+use Rattle.abstract_route.specs.Rows.{IsBelow, IsInhabited, IsRow, bottom}
+use Rattle.concrete_algebra.specs.Carrying.{carry_gives}
+use Rattle.concrete_algebra.specs.LocalRoutes.{local_of}
+use Rattle.concrete_algebra.specs.Maps.{map_gives}
 use Rattle.abstract_maps.specs.AbstractMap.{IsShort, abstract_map, sure}
 use Rattle.abstract_maps.specs.LocalRow.{local_row}
 use Rattle.abstract_maps.specs.Transfer.{free, gives, less, longest, opens, passes, transfer}
@@ -20,7 +21,8 @@ use Rattle.abstract_maps.specs.Transfer.{free, gives, less, longest, opens, pass
 -- what a policy gives of a route that fits a row fits what it makes of the row
 abbrev pub MapIsSound : Type 0
 MapIsSound =
-    (net : NetValue) (u : ℕ) (policy : Policy) (prefix : PrefixValue) (row : Row) (route given : Route) → IsNet net → u < length net.routers →
+    (net : NetValue) (u : ℕ) (policy : Policy) (prefix : PrefixValue) (row : Row) (route given : Route) → IsNet net →
+    u < length net.routers →
     Fits route row → map_gives net u policy prefix route ≡ Some given → Fits given (abstract_map net u policy prefix row)
 
 -- a policy leaves no route of a row, or an inhabited row
@@ -63,7 +65,7 @@ GivesIsSound =
 
 -- the router that the arc goes to is on the route's path
 abbrev pub Meets : NetValue → Arc → Route → Type 0
-Meets net arc route = (u : ℕ) × (receiver_of net arc ≡ Some u) × (on_path u route.path ≡ true)
+Meets net arc route = (u : ℕ) × (receiver_of net arc ≡ Some u) × (is_on u route.path ≡ true)
 
 -- where an arc passes a row, it carries each route of the row, but for one whose path the receiver is on
 abbrev pub PassingIsSure : Type 0

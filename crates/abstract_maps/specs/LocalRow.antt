@@ -1,12 +1,12 @@
 -- The row of a router's local route alone. The project's own.
 use Rattle.std.specs.Prelude.{ℕ, Option, Some, None}
+use Rattle.net_types.specs.declared.routes.Route.{Route}
+use Rattle.net_types.specs.NetValue.{NetValue}
+use Rattle.net_types.specs.PrefixValue.{PrefixValue}
 use Rattle.abstract_route.specs.declared.rows.Row.{Row}
 use Rattle.abstract_route.specs.Fits.{exact_row}
 use Rattle.abstract_route.specs.Rows.{bottom}
 use Rattle.concrete_algebra.specs.LocalRoutes.{local_of}
-use Rattle.net_types.specs.declared.routes.Route.{Route}
-use Rattle.net_types.specs.NetValue.{NetValue}
-use Rattle.net_types.specs.PrefixValue.{PrefixValue}
 
 -- the least row that a route fits, and the row of no route where there is none
 abbrev pub exact_or_bottom : Option Route → Row

@@ -1,9 +1,9 @@
 -- What private functions promise each other: how far the length of a row's paths has
 -- grown, and that routers are numbers of a set.
 use Rattle.std.specs.Prelude.{ℕ, ◌<◌, ◌≤◌, ◌+◌}
+use Rattle.net_types.specs.declared.network.Link.{Link}
 use Rattle.abstract_route.specs.declared.rows.Row.{Row}
 use Rattle.abstract_route.specs.Rows.{IsInhabited}
-use Rattle.net_types.specs.declared.network.Link.{Link}
 
 -- the second row has routes only where the first has, with at most so many entries more
 abbrev pub GrowsBy : ℕ → Row → Row → Type 0

@@ -4,11 +4,7 @@
 use Rattle.std.specs.Prelude.{ℕ, ◌≡◌, ◌<◌, ◌≤◌, ◌^◌, true, false, length, IfSome}
 use Rattle.std.specs.Int.{bit_not, w64}
 use Rattle.std.specs.Option.{is_some}
-use Rattle.abstract_route.specs.declared.rows.Row.{Row}
-use Rattle.abstract_route.specs.Fits.{exact_row, exported_med, on_path}
-use Rattle.abstract_route.specs.Rows.{IsInhabited, IsRow}
-use Rattle.concrete_algebra.specs.Carrying.{carry_gives}
-use Rattle.concrete_algebra.specs.Maps.{map_gives}
+use Rattle.net_types.specs.Routes.{is_on, sent_med}
 use Rattle.net_types.specs.declared.arcs.Arc.{Arc}
 use Rattle.net_types.specs.declared.network.Policy.{Policy}
 use Rattle.net_types.specs.declared.routes.Route.{Route}
@@ -16,6 +12,11 @@ use Rattle.net_types.specs.Arcs.{is_session, receiver_of}
 use Rattle.net_types.specs.NetFacts.{IsNet}
 use Rattle.net_types.specs.NetValue.{NetValue}
 use Rattle.net_types.specs.PrefixValue.{PrefixValue}
+use Rattle.abstract_route.specs.declared.rows.Row.{Row}
+use Rattle.abstract_route.specs.Fits.{exact_row}
+use Rattle.abstract_route.specs.Rows.{IsInhabited, IsRow}
+use Rattle.concrete_algebra.specs.Carrying.{carry_gives}
+use Rattle.concrete_algebra.specs.Maps.{map_gives}
 use Rattle.abstract_maps.specs.AbstractMap.{abstract_map, sure}
 use Rattle.abstract_maps.specs.LocalRow.{exact_or_bottom}
 use Rattle.abstract_maps.specs.Transfer.{longest, opens, passes, transfer}
@@ -34,7 +35,7 @@ SureIsExact =
 
 -- the least row that the route is in
 abbrev pub least_row : Route → Row
-least_row route = exact_row (record route { med = exported_med route.source route.med })
+least_row route = exact_row (record route { med = sent_med route.source route.med })
 
 -- of the row of one route an arc makes the row of what it carries of the route, if its path is no longer than the cut
 abbrev pub TransferIsExact : Type 0
@@ -45,7 +46,7 @@ TransferIsExact =
 
 -- the router that the arc goes to is not on the route's path
 abbrev pub Misses : NetValue → Arc → Route → Type 0
-Misses net arc route = IfSome (receiver_of net arc) (λ u. on_path u route.path ≡ false)
+Misses net arc route = IfSome (receiver_of net arc) (λ u. is_on u route.path ≡ false)
 
 -- an arc passes the row of one route exactly where it carries the route, if the receiver is not on its path
 abbrev pub PassesIsExact : Type 0

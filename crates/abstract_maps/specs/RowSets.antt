@@ -2,16 +2,16 @@
 -- `concrete_algebra/specs/Maps.antt` says of one. The rows are the project's own.
 use Rattle.std.specs.Prelude.{ℕ, ◌+◌, ◌==◌, ◌^◌, Option, Some, None, bit_and, bit_or, if◌then◌else◌}
 use Rattle.std.specs.Int.{bit_not, w64}
-use Rattle.abstract_route.specs.declared.rows.Row.{Row}
-use Rattle.abstract_route.specs.declared.rows.Range.{Range}
-use Rattle.abstract_route.specs.Rows.{single}
-use Rattle.concrete_algebra.specs.Maps.{community_entries, deleted_by, with_set, without_deleted}
 use Rattle.net_types.specs.declared.config.Origin.{Origin}
 use Rattle.net_types.specs.declared.network.NetSets.{NetSets}
 use Rattle.net_types.specs.declared.network.NetSetCommunity.{NetSetCommunity}
 use Rattle.net_types.specs.declared.network.NetSetCommunity.TheVariants.{Keep, Replace, Add, Clear}
 use Rattle.net_types.specs.declared.network.Router.{Router}
 use Rattle.net_types.specs.Better.{origin_rank}
+use Rattle.abstract_route.specs.declared.rows.Row.{Row}
+use Rattle.abstract_route.specs.declared.rows.Range.{Range}
+use Rattle.abstract_route.specs.Rows.{single}
+use Rattle.concrete_algebra.specs.Maps.{community_entries, deleted_by, with_set, without_deleted}
 
 -- a replaced number is a range of one
 abbrev pub replaced : Option ℕ → Range → Range

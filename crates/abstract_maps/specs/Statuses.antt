@@ -1,13 +1,13 @@
 -- How the matches of a route map stand to all routes of a row at once. All of this is the project's own; what a
 -- match asks of one route stands in `concrete_algebra/specs/Maps.antt`.
 use Rattle.std.specs.Prelude.{ℕ, ◌==◌, ◌||◌, Bool, false, not, List, [], ◌∷◌, Option, Some, None, bit_and, if◌then◌else◌}
-use Rattle.abstract_route.specs.declared.rows.Row.{Row}
-use Rattle.concrete_algebra.specs.Maps.{community_entries, prefixes_match}
 use Rattle.net_types.specs.declared.network.Router.{Router}
 use Rattle.net_types.specs.declared.network.NetCommunityEntry.{NetCommunityEntry}
 use Rattle.net_types.specs.declared.network.NetMapEntry.{NetMapEntry}
 use Rattle.net_types.specs.PrefixValue.{PrefixValue}
 use Rattle.net_types.specs.Sets.{is_part}
+use Rattle.abstract_route.specs.declared.rows.Row.{Row}
+use Rattle.concrete_algebra.specs.Maps.{community_entries, prefixes_match}
 use Rattle.abstract_maps.specs.declared.statuses.Status.{Status}
 use Rattle.abstract_maps.specs.declared.statuses.Status.TheVariants.{No, Maybe, Yes}
 

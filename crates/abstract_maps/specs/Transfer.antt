@@ -2,10 +2,6 @@
 -- one (RFC 4271, RFC 1997). The rows are the project's own.
 use Rattle.std.specs.Prelude.{ℕ, ◌*◌, ◌&&◌, ◌^◌, Bool, false, not, length, bit_or, min, if◌then◌else◌}
 use Rattle.std.specs.Option.{option_map_or}
-use Rattle.abstract_route.specs.declared.rows.Row.{Row}
-use Rattle.abstract_route.specs.declared.rows.Range.{Range}
-use Rattle.abstract_route.specs.Rows.{single, carried_row, inhabited, bottom}
-use Rattle.concrete_algebra.specs.Carrying.{holds_value, is_kept_home}
 use Rattle.net_types.specs.declared.arcs.Arc.{Arc}
 use Rattle.net_types.specs.declared.network.Link.{Link}
 use Rattle.net_types.specs.declared.network.End.{End}
@@ -14,6 +10,10 @@ use Rattle.net_types.specs.NetFacts.{no_export, no_advertise}
 use Rattle.net_types.specs.NetValue.{NetValue}
 use Rattle.net_types.specs.PrefixValue.{PrefixValue}
 use Rattle.net_types.specs.Sets.{has}
+use Rattle.abstract_route.specs.declared.rows.Row.{Row}
+use Rattle.abstract_route.specs.declared.rows.Range.{Range}
+use Rattle.abstract_route.specs.Rows.{single, carried_row, inhabited, bottom}
+use Rattle.concrete_algebra.specs.Carrying.{holds_value, is_kept_home}
 use Rattle.abstract_maps.specs.AbstractMap.{abstract_map, sure}
 use Rattle.abstract_maps.specs.RowSets.{lengthened, minus}
 
@@ -82,10 +82,12 @@ passes_between net prefix from to row =
 
 -- over a link in one direction; no route where it is no session
 abbrev pub over_link : NetValue → PrefixValue → Bool → Row → Link → Row
-over_link net prefix down row link = if link.session then between net prefix (from_end down link) (to_end down link) row else bottom
+over_link net prefix down row link =
+    if link.session then between net prefix (from_end down link) (to_end down link) row else bottom
 
 abbrev pub over_link_free : NetValue → PrefixValue → Bool → Row → Link → Row
-over_link_free net prefix down row link = if link.session then between_free net prefix (from_end down link) (to_end down link) row else bottom
+over_link_free net prefix down row link =
+    if link.session then between_free net prefix (from_end down link) (to_end down link) row else bottom
 
 abbrev pub passes_link : NetValue → PrefixValue → Bool → Row → Link → Bool
 passes_link net prefix down row link = link.session && passes_between net prefix (from_end down link) (to_end down link) row

@@ -1,7 +1,6 @@
 //! What a sender announces of a row, before the receiver sees it.
 
-ghost use Rattle.std.specs.Prelude.{◌≡◌, ◌<◌, ◌^◌, IfSome};
-ghost use Rattle.concrete_algebra.specs.Carrying.{community_number, holds_value};
+ghost use Rattle.std.specs.Prelude.{◌≡◌, ◌<◌, ◌^◌};
 ghost use Rattle.abstract_route.specs.Rows.{IsInhabited};
 ghost use Rattle.abstract_maps.specs.AbstractMap.{IsShort};
 ghost use Rattle.abstract_maps.specs.Transfer.{exported, may_leave, row_sent_by, surely_leaves};
@@ -9,42 +8,8 @@ ghost use Rattle.abstract_maps.specs.Transfer.{exported, may_leave, row_sent_by,
 use crate::maps::abstract_map;
 use crate::row_sets::lengthened;
 use abstract_route::{Row, bottom_value, is_inhabited};
-use net_types::{Bits64, End, Net, Prefix};
-
-// NO_EXPORT of RFC 1997.
-const NO_EXPORT: u32 = 0xffff_ff01;
-
-// NO_ADVERTISE of RFC 1997.
-const NO_ADVERTISE: u32 = 0xffff_ff02;
-
-// The number of the community of this value.
-fn community_number(net: &Net, value: u32) -> Option<usize>
-    ensures { result ≡ community_number net.now value }
-{
-    net.communities()
-        .iter()
-        .position(|&community| community == value)
-}
-
-// Whether the community of this value is among those of the set.
-fn holds_value(net: &Net, value: u32, set: Bits64) -> bool
-    ensures { result ≡ holds_value net.now value set }
-{
-    match small_number(net, value) {
-        None => false,
-        Some(number) => set.has(number),
-    }
-}
-
-// The same as a number of a set.
-fn small_number(net: &Net, value: u32) -> Option<u8>
-    ensures number { result ≡ community_number net.now value }
-    ensures small { IfSome result (λ number. number < 64) }
-{
-    net.valid();
-    let number = community_number(net, value)?;
-    Some(number as u8)
-}
+use concrete_algebra::{holds_value, is_kept_home};
+use net_types::{End, NO_ADVERTISE, NO_EXPORT, Net, Prefix};
 
 fn may_leave(net: &Net, row: &Row) -> bool
     ensures { result ≡ may_leave net.now row.now }
@@ -55,7 +20,7 @@ fn may_leave(net: &Net, row: &Row) -> bool
 pub(crate) fn surely_leaves(net: &Net, row: &Row) -> bool
     ensures { result ≡ surely_leaves net.now row.now }
 {
-    !(holds_value(net, NO_EXPORT, row.has) || holds_value(net, NO_ADVERTISE, row.has))
+    !is_kept_home(net, row.has)
 }
 
 // The router once more in front of the path.

@@ -6,7 +6,7 @@ ghost use Rattle.abstract_maps.specs.OneRoute.{MapIsExact, OpenIsExact, OpenIsPa
 
 /// What a policy gives of a route of a row is a route of what it makes of the row, and a policy that is sure of a
 /// row gives something of each of its routes. Paths get at most 10 entries longer.
-pub fn map_laws()
+pub fn law_of_maps()
     ensures sound { MapIsSound }
     ensures grows { MapGrows }
     ensures either { MapIsNoneOrInhabited }
@@ -16,18 +16,18 @@ pub fn map_laws()
 
 /// What an arc carries of a route of a row is a route of what it makes of the row, if its path has at most 21 entries
 /// for each router of the network.
-pub fn soundness_laws()
+pub fn law_of_soundness()
     ensures transfer { TransferIsSound }
     ensures gives { GivesIsSound }
 {}
 
 /// Where an arc passes a row, each route of the row comes over it, but for one whose path its receiver is on.
-pub fn passing_law()
+pub fn law_of_passing()
     ensures { PassingIsSure }
 {}
 
 /// What an arc makes of a row grows with the row, and what is open stays open.
-pub fn growth_laws()
+pub fn law_of_growth()
     ensures transfer { TransferGrows }
     ensures gives { GivesGrows }
     ensures open { OpenGrows }
@@ -35,7 +35,7 @@ pub fn growth_laws()
 
 /// An arc makes no route of a row, or an inhabited row; passing arcs are open, an arc that is not open makes
 /// nothing of the row, and open is asked of the row without the receiver.
-pub fn open_laws()
+pub fn law_of_open_arcs()
     ensures either { TransferIsNoneOrInhabited }
     ensures either_free { FreeIsNoneOrInhabited }
     ensures either_gives { GivesIsNoneOrInhabited }
@@ -45,7 +45,7 @@ pub fn open_laws()
 {}
 
 /// What an arc makes of a row of 64-bit words is such a row, with paths of at most 21 entries for each router.
-pub fn row_laws()
+pub fn law_of_rows()
     ensures transfer { TransferIsRow }
     ensures gives { GivesIsRow }
     ensures cut { TransferIsCut }
@@ -54,7 +54,7 @@ pub fn row_laws()
 {}
 
 /// The row of a router's local route is the least that the route fits: a row of 64-bit words with a short path.
-pub fn local_laws()
+pub fn law_of_local_rows()
     ensures exact { LocalIsExact }
     ensures row { LocalIsRow }
     ensures short { LocalIsShort }
@@ -62,7 +62,7 @@ pub fn local_laws()
 
 /// On the row of one route nothing is left open: each answer is what becomes of the route. An arc that is open for a
 /// row with no open community passes it.
-pub fn one_route_laws()
+pub fn law_of_one_route()
     ensures map { MapIsExact }
     ensures sure { SureIsExact }
     ensures transfer { TransferIsExact }

@@ -2,8 +2,8 @@
 //!
 //! Decides: what a policy makes of a row, what an arc makes of it, and whether an arc surely carries each of its
 //! routes. What they make of one route, `concrete_algebra` decides; how rows are ordered, `abstract_route`.
-//! Stands on: `net_types`, `abstract_route`, and the lists and definitions of `concrete_algebra`. No call takes
-//! memory.
+//! Stands on: `net_types`, `abstract_route`, and of `concrete_algebra` the definitions and its calls on lists,
+//! maps and communities. No call takes memory.
 //! Promises: each answer is the one of `specs/`, for every network; and the laws, stated in `specs/Laws.antt`, say
 //! that a carried route of a row fits what the arc makes of the row, if its path has at most 21 entries for each
 //! router of the network, that a row which passes is carried, and that what arcs make of rows grows with the rows.
@@ -24,8 +24,8 @@ mod tests;
 mod transfers;
 
 pub use laws::{
-    growth_laws, local_laws, map_laws, one_route_laws, open_laws, passing_law, row_laws,
-    soundness_laws,
+    law_of_growth, law_of_local_rows, law_of_maps, law_of_one_route, law_of_open_arcs,
+    law_of_passing, law_of_rows, law_of_soundness,
 };
 pub use local_rows::local_row;
 pub use maps::run_map_abs;

@@ -1,18 +1,17 @@
 //! The row of a router's local route alone.
 
-ghost use Rattle.std.specs.Prelude.{◌≡◌, ◌<◌, length, option_map, None};
-ghost use Rattle.concrete_algebra.specs.LocalRoutes.{entry_of, originated, ospf_route, owner_route, route_by_entry};
+ghost use Rattle.std.specs.Prelude.{◌≡◌, ◌<◌, length};
+ghost use Rattle.net_types.specs.Owners.{entry_of};
+ghost use Rattle.concrete_algebra.specs.LocalRoutes.{originated, ospf_route, owner_route, route_by_entry};
 ghost use Rattle.concrete_algebra.specs.Maps.{map_gives};
 ghost use Rattle.abstract_route.specs.Fits.{exact_row};
 ghost use Rattle.abstract_route.specs.Rows.{single};
-ghost use Rattle.net_types.specs.Better.{origin_rank};
 ghost use Rattle.abstract_maps.specs.AbstractMap.{IsShort};
 ghost use Rattle.abstract_maps.specs.LocalRow.{exact_or_bottom, local_row};
 
 use crate::maps::run_map_abs;
-use crate::row_sets::rank_of;
 use abstract_route::{Range, Row, bottom_value};
-use net_types::{Bits64, Net, Origin, Owned, Policy, Prefix, Router};
+use net_types::{Bits64, Net, Origin, Owned, Policy, Prefix, Router, entry_of};
 
 fn single(number: u64) -> Range
     ensures { result ≡ single number }
@@ -31,7 +30,7 @@ fn originated(origin: Origin, med: u64) -> Row
         weight: single(32768),
         preference: single(100),
         length: single(0),
-        origin: single(rank_of(origin)),
+        origin: single(u64::from(origin.rank())),
         med: single(med),
         has: Bits64::EMPTY,
         lacks: Bits64::FULL,
@@ -71,13 +70,6 @@ fn ospf_row(net: &Net, prefix: Prefix, u: u8, router: &Router, distance: Option<
         None => bottom_value(),
         Some(distance) => redistributed(net, u, router.ospf, prefix, Origin::Incomplete, distance),
     }
-}
-
-// The entry of the prefix among what a router owns.
-fn entry_of<'a>(prefix: &Prefix, owned: &'a [Owned]) -> Option<&'a Owned>
-    ensures { option_map (λ entry. entry.now) result ≡ entry_of prefix.now owned.now }
-{
-    owned.iter().find(|entry| entry.prefix.is_same(prefix))
 }
 
 fn router_row(net: &Net, prefix: Prefix, u: u8, router: &Router, distance: Option<u64>) -> Row

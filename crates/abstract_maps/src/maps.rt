@@ -9,6 +9,7 @@ ghost use Rattle.abstract_maps.specs.OnTheWay.{GrowsBy};
 use crate::entries::{by_entry, entry_row, on_entry};
 use crate::statuses::Status;
 use abstract_route::{Row, bottom_value, is_inhabited};
+use concrete_algebra::map_entries;
 use net_types::{Net, NetMapEntry, Policy, Prefix, Router};
 
 // The abstract map of these entries.
@@ -33,16 +34,6 @@ pub(crate) fn map_row(
             entry_row(router, u, first, row),
             map_row(router, u, prefix, later, row),
         ),
-    }
-}
-
-// The entries of the router's map at the position.
-fn map_entries(router: &Router, position: u32) -> &[NetMapEntry]
-    ensures { result.now ≡ map_entries router.now position }
-{
-    match router.maps.as_slice().get(position as usize) {
-        None => &[],
-        Some(map) => map.entries.as_slice(),
     }
 }
 

@@ -2,7 +2,6 @@
 
 ghost use Rattle.std.specs.Prelude.{◌≡◌, ◌<◌, ◌≤◌, ◌+◌, ◌^◌};
 ghost use Rattle.std.specs.Int.{bit_not, w64};
-ghost use Rattle.net_types.specs.Better.{origin_rank};
 ghost use Rattle.abstract_maps.specs.RowSets.{lacked_after, lengthened, replaced, replaced_origin, row_under_sets, with_deleted, with_router};
 
 use abstract_route::{Range, Row};
@@ -21,23 +20,13 @@ fn replaced(number: Option<u32>, range: Range) -> Range
     }
 }
 
-pub(crate) fn rank_of(origin: Origin) -> u64
-    ensures { result ≡ origin_rank origin }
-{
-    match origin {
-        Origin::Igp => 0,
-        Origin::Egp => 1,
-        Origin::Incomplete => 2,
-    }
-}
-
 fn replaced_origin(origin: Option<Origin>, range: Range) -> Range
     ensures { result ≡ replaced_origin origin range }
 {
     match origin {
         None => range,
         Some(origin) => {
-            let rank = rank_of(origin);
+            let rank = u64::from(origin.rank());
             Range {
                 low: rank,
                 high: rank,

@@ -5,14 +5,14 @@ use Rattle.std.specs.declared.cmp.Ordering.{Ordering}
 use Rattle.std.specs.declared.cmp.Ordering.TheVariants.{Less, Equal, Greater}
 use Rattle.std.specs.Ordering.{is_lt, nat_cmp, ordering_then}
 use Rattle.std.specs.Cmp.{nat_cmp_is}
-use Rattle.abstract_route.specs.declared.candidates.Candidate.{Candidate}
-use Rattle.abstract_route.specs.Beats.{beats, by_less, by_med, by_more, candidate_of, learned_from, sender_rank, worst_steps, HasSender, IsBest, IsFrom, IsOf, IsWorst}
-use Rattle.abstract_route.proofs.FitLemmas.{exact_is_least}
 use Rattle.net_types.specs.declared.routes.Route.{Route}
 use Rattle.net_types.specs.declared.routes.Source.{Source}
 use Rattle.net_types.specs.declared.routes.Source.TheVariants.{Local, Learned}
 use Rattle.net_types.specs.Better.{is_better, steps, first_difference, same_router, source_rank, med_step, origin_rank}
 use Rattle.net_types.specs.NetValue.{NetValue}
+use Rattle.abstract_route.specs.declared.candidates.Candidate.{Candidate}
+use Rattle.abstract_route.specs.Beats.{beats, by_less, by_med, by_more, candidate_of, learned_from, sender_rank, worst_steps, HasSender, IsBest, IsFrom, IsOf, IsWorst}
+use Rattle.abstract_route.proofs.FitLemmas.{exact_is_least}
 
 -- what a step of routes may answer where the worst and the best answer so
 abbrev Follows : Ordering → Ordering → Type 0

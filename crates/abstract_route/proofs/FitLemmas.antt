@@ -3,6 +3,7 @@ use Rattle.std.proofs.Common.{ℕ, ◌≡◌, ◌≢◌, ◌<◌, ◌≤◌, ◌
 use Rattle.std.specs.Int.{bit_not, w64, bit_at}
 use Rattle.std.proofs.lemmas.Bool.Decides.{nat_tests}
 use Rattle.std.proofs.lemmas.Nat.Bits.{bit_at-pow_same, bit_at-pow_other, bit_at_above, bit_at_not, bit_at-lt, bit_at_ones}
+use Rattle.net_types.specs.Routes.{is_on}
 use Rattle.net_types.specs.declared.routes.Route.{Route}
 use Rattle.std.proofs.lemmas.Nat.{or_lt, pow_below}
 use Rattle.std.proofs.lemmas.List.Elements.{All-head, All-tail}
@@ -13,7 +14,7 @@ use Rattle.net_types.specs.Sets.{has, is_part, IsPart}
 use Rattle.net_types.proofs.SetLemmas.{has_union, part_from_common, common_from_part}
 use Rattle.abstract_route.specs.declared.rows.Row.{Row}
 use Rattle.abstract_route.specs.Rows.{IsBelow, IsInhabited, IsRow, carried_row, inhabited, bottom}
-use Rattle.abstract_route.specs.Fits.{on_path, Fits, LacksRest, StaysIn, PassesAll, IsExact, routers_of, exact_row}
+use Rattle.abstract_route.specs.Fits.{Fits, LacksRest, StaysIn, PassesAll, IsExact, routers_of, exact_row}
 use Rattle.abstract_route.proofs.RowLemmas.{part_refl, part_trans}
 
 bool_cases : (b : Bool) → (b ≡ true) ⊎ (b ≡ false)
@@ -41,21 +42,21 @@ or_grouped : (p q r : Bool) → ((p || q) || r) ≡ (p || (q || r))
 or_grouped true q r = refl
 or_grouped false q r = refl
 
-has_fold : (set : ℕ) (path : List ℕ) (x : ℕ) → has (fold (λ s y. bit_or s (2 ^ y)) set path) x ≡ (has set x || on_path x path)
+has_fold : (set : ℕ) (path : List ℕ) (x : ℕ) → has (fold (λ s y. bit_or s (2 ^ y)) set path) x ≡ (has set x || is_on x path)
 has_fold set [] x = or_false (has set x) where
   or_false : (b : Bool) → b ≡ (b || false)
   or_false true = refl
   or_false false = refl
 has_fold set (y ∷ path) x =
     has_fold (bit_or set (2 ^ y)) path x ∙
-    ap (λ (b : Bool). b || on_path x path) (has_more set y x) ∙
-    or_grouped (has set x) (x == y) (on_path x path)
+    ap (λ (b : Bool). b || is_on x path) (has_more set y x) ∙
+    or_grouped (has set x) (x == y) (is_on x path)
 
 has_none : (x : ℕ) → has 0 x ≡ false
 has_none x = let e = bit_at_above 0 0 x (omega arith) (omega arith) in grind (arith, nat_tests)
 
-pub has-routers_of : (path : List ℕ) (x : ℕ) → has (routers_of path) x ≡ on_path x path
-has-routers_of path x = has_fold 0 path x ∙ ap (λ (b : Bool). b || on_path x path) (has_none x)
+pub has-routers_of : (path : List ℕ) (x : ℕ) → has (routers_of path) x ≡ is_on x path
+has-routers_of path x = has_fold 0 path x ∙ ap (λ (b : Bool). b || is_on x path) (has_none x)
 
 pub stays_in : (path : List ℕ) (may : ℕ) → IsPart (routers_of path) may ↔ StaysIn path may
 stays_in path may = ((λ p x on. p.members x (has-routers_of path x ∙ on)), (λ s. record { members = λ x h. s x (sym (has-routers_of path x) ∙ h) }))

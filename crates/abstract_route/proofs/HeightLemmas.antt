@@ -3,12 +3,12 @@ use Rattle.std.proofs.Common.{ℕ, ◌≡◌, ◌-◌, ◌*◌, ◌^◌, ◌<◌
 use Rattle.std.proofs.lemmas.Bool.Decides.{nat_tests}
 use Rattle.std.proofs.lemmas.Nat.{and_le_l, or_lt}
 use Rattle.std.proofs.lemmas.Nat.Bits.{bit_at_above, bit_at_ones}
+use Rattle.net_types.specs.Sets.{IsPart}
+use Rattle.net_types.proofs.SetLemmas.{part_le, bit_from}
 use Rattle.abstract_route.specs.declared.rows.Row.{Row}
 use Rattle.abstract_route.specs.declared.rows.Range.{Range}
 use Rattle.abstract_route.specs.Rows.{IsBelow, IsRow, bottom, joined, Lies}
 use Rattle.abstract_route.specs.Heights.{range_rank, row_rank}
-use Rattle.net_types.specs.Sets.{IsPart}
-use Rattle.net_types.proofs.SetLemmas.{part_le, bit_from}
 use Rattle.abstract_route.proofs.RowLemmas.{range_same, row_same}
 
 range_up : (a b : Range) → Lies a b → range_rank a ≤ range_rank b

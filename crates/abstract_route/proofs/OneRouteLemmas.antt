@@ -6,6 +6,7 @@ use Rattle.std.proofs.lemmas.List.{length-replicate}
 use Rattle.std.proofs.lemmas.List.Folds.{list_any-append}
 use Rattle.std.proofs.lemmas.Map.Views.{any-filter_same}
 use Rattle.std.proofs.lemmas.Nat.Bits.{bit_at_above}
+use Rattle.net_types.specs.Routes.{is_on, sent_med}
 use Rattle.net_types.specs.declared.config.Origin.{Origin}
 use Rattle.net_types.specs.declared.config.Origin.TheVariants.{Igp, Egp, Incomplete}
 use Rattle.net_types.specs.declared.arcs.Arc.{Arc}
@@ -16,7 +17,7 @@ use Rattle.net_types.specs.Sets.{has}
 use Rattle.net_types.proofs.SetLemmas.{bit_from}
 use Rattle.abstract_route.specs.declared.rows.Row.{Row}
 use Rattle.abstract_route.specs.Rows.{IsInhabited, IsRow, carried_row}
-use Rattle.abstract_route.specs.Fits.{Fits, IsIn, exact_row, exported_med, on_path}
+use Rattle.abstract_route.specs.Fits.{Fits, IsIn, exact_row}
 use Rattle.abstract_route.specs.OneRoute.{HasRoom, IsLike, members}
 use Rattle.abstract_route.proofs.RowLemmas.{part_refl, part_anti}
 use Rattle.abstract_route.proofs.FitLemmas.{exact_is_least, fits_inhabited, has-routers_of, has_others}
@@ -60,7 +61,7 @@ exact_fits_one t o small f = record {
         members = λ x h. let low = member_below t.communities x small h in
             kept (has o.communities x) (has t.communities x) h (λ off. sym (has_others t.communities x small low) ∙ f.lacked x low off);
       });
-  routers = λ x. both_ways (on_path x o.path) (on_path x t.path)
+  routers = λ x. both_ways (is_on x o.path) (is_on x t.path)
       (λ on. sym (has-routers_of t.path x) ∙ f.may x on)
       (λ on. f.must x (has-routers_of t.path x ∙ on));
 } where
@@ -72,22 +73,22 @@ exact_fits_one t o small f = record {
 -- ---- the route in its row, with the MED that an export carries
 
 pub local_is_in : (route : Route) → route.communities < 2 ^ 64 → route.source ≡ Local → IsIn route (exact_row route)
-local_is_in t small e = subst (λ n. Fits (record t { med = n }) (exact_row t)) (sym (ap (λ s. exported_med s t.med) e)) (exact_is_least t small).fits
+local_is_in t small e = subst (λ n. Fits (record t { med = n }) (exact_row t)) (sym (ap (λ s. sent_med s t.med) e)) (exact_is_least t small).fits
 
 pub learned_is_in : (route : Route) (arc : Arc) → route.communities < 2 ^ 64 → route.source ≡ Learned arc → IsIn route (carried_row (exact_row route))
-learned_is_in t arc small e = subst (λ n. Fits (record t { med = n }) (carried_row (exact_row t))) (sym (ap (λ s. exported_med s t.med) e))
+learned_is_in t arc small e = subst (λ n. Fits (record t { med = n }) (carried_row (exact_row t))) (sym (ap (λ s. sent_med s t.med) e))
     (exact_is_least (record t { med = 0 }) small).fits
 
 -- ---- the route of an inhabited row
 
-on_append : (x : ℕ) (path more : List ℕ) → on_path x (path ++ more) ≡ (on_path x path || on_path x more)
+on_append : (x : ℕ) (path more : List ℕ) → is_on x (path ++ more) ≡ (is_on x path || is_on x more)
 on_append x path more = list_any-append (λ y. x == y) path more
 
-in_range : (a n x : ℕ) → a ≤ x → x < a + n → on_path x (range_with_len a n) ≡ true
+in_range : (a n x : ℕ) → a ≤ x → x < a + n → is_on x (range_with_len a n) ≡ true
 in_range a zero x p q = absurd (omega arith)
 in_range a (suc n) x p q = elim (cases a x) [
-  | inl same ↦ here (x == a) (on_path x (range_with_len (a + 1) n)) (grind (arith, nat_tests))
-  | inr other ↦ there (x == a) (on_path x (range_with_len (a + 1) n)) (in_range (a + 1) n x (omega arith) (omega arith))
+  | inl same ↦ here (x == a) (is_on x (range_with_len (a + 1) n)) (grind (arith, nat_tests))
+  | inr other ↦ there (x == a) (is_on x (range_with_len (a + 1) n)) (in_range (a + 1) n x (omega arith) (omega arith))
 ] where
   cases : (a x : ℕ) → (x ≡ a) ⊎ (x ≢ a)
   cases a x = grind arith
@@ -99,24 +100,24 @@ in_range a (suc n) x p q = elim (cases a x) [
   there true q e = refl
   there false q e = e
 
-on_members : (set x : ℕ) → on_path x (members set) ≡ (has set x && on_path x (range_with_len 0 64))
+on_members : (set x : ℕ) → is_on x (members set) ≡ (has set x && is_on x (range_with_len 0 64))
 on_members set x = any-filter_same (λ y. x == y) (λ y. has set y) (has set x) (λ y e. ap (λ n. has set n) (grind (arith, nat_tests))) (range_with_len 0 64)
 
-member_on : (set x : ℕ) → set < 2 ^ 64 → has set x ≡ true → on_path x (members set) ≡ true
+member_on : (set x : ℕ) → set < 2 ^ 64 → has set x ≡ true → is_on x (members set) ≡ true
 member_on set x small h =
-    on_members set x ∙ and_true (has set x) (on_path x (range_with_len 0 64)) h (in_range 0 64 x (omega arith) (member_below set x small h)) where
+    on_members set x ∙ and_true (has set x) (is_on x (range_with_len 0 64)) h (in_range 0 64 x (omega arith) (member_below set x small h)) where
       and_true : (p q : Bool) → p ≡ true → q ≡ true → (p && q) ≡ true
       and_true p q e f = rw (e, f) refl
 
-on_member : (set x : ℕ) → on_path x (members set) ≡ true → has set x ≡ true
-on_member set x on = left (has set x) (on_path x (range_with_len 0 64)) (sym (on_members set x) ∙ on) where
+on_member : (set x : ℕ) → is_on x (members set) ≡ true → has set x ≡ true
+on_member set x on = left (has set x) (is_on x (range_with_len 0 64)) (sym (on_members set x) ∙ on) where
   left : (p q : Bool) → (p && q) ≡ true → p ≡ true
   left true q e = refl
   left false q e = absurd (cc)
 
-on_copies : (x y n : ℕ) → on_path x (replicate n y) ≡ true → x ≡ y
+on_copies : (x y n : ℕ) → is_on x (replicate n y) ≡ true → x ≡ y
 on_copies x y zero on = absurd (cc)
-on_copies x y (suc n) on = first (x == y) (on_path x (replicate n y)) (λ e. grind (arith, nat_tests)) (on_copies x y n) on where
+on_copies x y (suc n) on = first (x == y) (is_on x (replicate n y)) (λ e. grind (arith, nat_tests)) (on_copies x y n) on where
   first : (p q : Bool) → (p ≡ true → x ≡ y) → (q ≡ true → x ≡ y) → (p || q) ≡ true → x ≡ y
   first true q f g e = f refl
   first false q f g e = g e
@@ -125,8 +126,8 @@ on_copies x y (suc n) on = first (x == y) (on_path x (replicate n y)) (λ e. gri
 record IsPathOf (row : Row) (path : List ℕ) : Type 0 where
   least : row.length.low ≤ length path
   greatest : length path ≤ row.length.high
-  may : (x : ℕ) → on_path x path ≡ true → has row.may x ≡ true
-  must : (x : ℕ) → has row.must x ≡ true → on_path x path ≡ true
+  may : (x : ℕ) → is_on x path ≡ true → has row.may x ≡ true
+  must : (x : ℕ) → has row.must x ≡ true → is_on x path ≡ true
 
 either : (p q : Bool) (P : Type 0) → (p ≡ true → P) → (q ≡ true → P) → (p || q) ≡ true → P
 either true q P f g e = f refl
@@ -151,12 +152,12 @@ has_path row words h room = go room.some where
           let f = length-replicate (row.length.low - length (members row.must)) y in omega arith);
       greatest = (let e = length-append (members row.must) (replicate (row.length.low - length (members row.must)) y) in
           let f = length-replicate (row.length.low - length (members row.must)) y in let g = room.few in let k = h.length in omega arith);
-      may = λ x on. either (on_path x (members row.must)) (on_path x (replicate (row.length.low - length (members row.must)) y)) (has row.may x ≡ true)
+      may = λ x on. either (is_on x (members row.must)) (is_on x (replicate (row.length.low - length (members row.must)) y)) (has row.may x ≡ true)
           (λ m. h.routers.members x (on_member row.must x m))
           (λ c. ap (λ n. has row.may n) (on_copies x y (row.length.low - length (members row.must)) c) ∙ filler)
           (sym (on_append x (members row.must) (replicate (row.length.low - length (members row.must)) y)) ∙ on);
       must = λ x m. on_append x (members row.must) (replicate (row.length.low - length (members row.must)) y) ∙
-          ap (λ (b : Bool). b || on_path x (replicate (row.length.low - length (members row.must)) y)) (member_on row.must x words.sets.3 m);
+          ap (λ (b : Bool). b || is_on x (replicate (row.length.low - length (members row.must)) y)) (member_on row.must x words.sets.3 m);
     },
   )
 
@@ -247,13 +248,13 @@ count_once y a (suc n) = elim (cases a y) [
   off : (b : Bool) → b ≡ false → one b ≡ 0
   off b e = rw e refl
 
-count_on : (path : List ℕ) → many (λ x. on_path x path) (range_with_len 0 64) ≤ length path
+count_on : (path : List ℕ) → many (λ x. is_on x path) (range_with_len 0 64) ≤ length path
 count_on [] = let e = none (range_with_len 0 64) in omega arith where
-  none : (xs : List ℕ) → many (λ x. on_path x []) xs ≡ 0
+  none : (xs : List ℕ) → many (λ x. is_on x []) xs ≡ 0
   none [] = refl
   none (x ∷ xs) = let e = none xs in omega arith
 count_on (y ∷ path) =
-    let e = count_or (λ x. x == y) (λ x. on_path x path) (range_with_len 0 64) in
+    let e = count_or (λ x. x == y) (λ x. is_on x path) (range_with_len 0 64) in
     let f = count_once y 0 64 in let g = count_on path in omega arith
 
 or_left : (p q : Bool) → p ≡ true → (p || q) ≡ true
@@ -262,14 +263,14 @@ or_left p q e = rw e refl
 has_room : (route : Route) (row : Row) → Fits route row → HasRoom row
 has_room t row f = record {
   few = (let e = length_filter (λ x. has row.must x) (range_with_len 0 64) in
-      let g = count_up (λ x. has row.must x) (λ x. on_path x t.path) (range_with_len 0 64) f.must in
+      let g = count_up (λ x. has row.must x) (λ x. is_on x t.path) (range_with_len 0 64) f.must in
       let h = count_on t.path in let l = f.length in omega arith);
   some = filled t.path f.length.0 f.may;
 } where
-  filled : (path : List ℕ) → row.length.low ≤ length path → ((x : ℕ) → on_path x path ≡ true → has row.may x ≡ true) →
+  filled : (path : List ℕ) → row.length.low ≤ length path → ((x : ℕ) → is_on x path ≡ true → has row.may x ≡ true) →
       (row.length.low ≡ 0) ⊎ ((x : ℕ) × (has row.may x ≡ true))
   filled [] low may = inl (omega arith)
-  filled (y ∷ path) low may = inr (y, may y (or_left (y == y) (on_path y path) (grind (arith, nat_tests))))
+  filled (y ∷ path) low may = inr (y, may y (or_left (y == y) (is_on y path) (grind (arith, nat_tests))))
 
 pub has_route : (row : Row) → IsRow row → ((route : Route) × Fits route row) ↔ (IsInhabited row × (row.origin.low ≤ 2) × HasRoom row)
 has_route row words = (

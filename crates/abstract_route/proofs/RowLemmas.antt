@@ -1,11 +1,11 @@
 -- The order of sets, of ranges and of rows, and their joins.
 use Rattle.std.proofs.Common.{ℕ, ◌≡◌, Bool, true, false, bit_or, bit_and, arith, sym, refl}
 use Rattle.std.proofs.lemmas.Bool.Decides.{nat_tests}
+use Rattle.net_types.specs.Sets.{has, IsPart}
+use Rattle.net_types.proofs.SetLemmas.{has_union, has_common, same_sets}
 use Rattle.abstract_route.specs.declared.rows.Row.{Row}
 use Rattle.abstract_route.specs.declared.rows.Range.{Range}
-use Rattle.net_types.specs.Sets.{has, IsPart}
 use Rattle.abstract_route.specs.Rows.{Lies, IsBelow, IsJoin, joined, hull_of}
-use Rattle.net_types.proofs.SetLemmas.{has_union, has_common, same_sets}
 
 pub part_refl : (a : ℕ) → IsPart a a
 part_refl a = record { members = λ x h. h }

@@ -4,16 +4,16 @@ use Rattle.std.specs.Prelude.{ℕ, ◌≡◌, if◌then◌else◌, Bool, List, [
 use Rattle.std.specs.declared.cmp.Ordering.{Ordering}
 use Rattle.std.specs.declared.cmp.Ordering.TheVariants.{Equal}
 use Rattle.std.specs.Ordering.{is_lt, nat_cmp}
-use Rattle.abstract_route.specs.declared.candidates.Candidate.{Candidate}
-use Rattle.abstract_route.specs.declared.rows.Range.{Range}
-use Rattle.abstract_route.specs.declared.rows.Row.{Row}
-use Rattle.abstract_route.specs.Fits.{Fits, exact_row}
 use Rattle.net_types.specs.declared.routes.Route.{Route}
 use Rattle.net_types.specs.declared.routes.Source.{Source}
 use Rattle.net_types.specs.declared.routes.Source.TheVariants.{Local, Learned}
 use Rattle.net_types.specs.Arcs.{sender_of}
 use Rattle.net_types.specs.Better.{same_router, first_difference, origin_rank}
 use Rattle.net_types.specs.NetValue.{NetValue}
+use Rattle.abstract_route.specs.declared.candidates.Candidate.{Candidate}
+use Rattle.abstract_route.specs.declared.rows.Range.{Range}
+use Rattle.abstract_route.specs.declared.rows.Row.{Row}
+use Rattle.abstract_route.specs.Fits.{Fits, exact_row}
 
 -- local comes before learned
 abbrev pub sender_rank : Option ℕ → ℕ

@@ -1,19 +1,13 @@
 -- Which routes a row speaks of. The attributes are those of RFC 4271, section 5, and RFC 1997.
-use Rattle.std.specs.Prelude.{ℕ, ◌≡◌, ◌<◌, ◌≤◌, ◌==◌, Bool, true, false, List, length, fold, bit_or, ◌^◌}
+use Rattle.std.specs.Prelude.{ℕ, ◌≡◌, ◌<◌, ◌≤◌, true, false, List, length, fold, bit_or, ◌^◌}
 use Rattle.std.specs.Int.{bit_not, w64}
-use Rattle.std.specs.List.{list_any}
+use Rattle.net_types.specs.declared.routes.Route.{Route}
+use Rattle.net_types.specs.Better.{origin_rank}
+use Rattle.net_types.specs.Routes.{is_on, sent_med}
+use Rattle.net_types.specs.Sets.{has, IsPart}
 use Rattle.abstract_route.specs.declared.rows.Row.{Row}
 use Rattle.abstract_route.specs.declared.rows.Range.{Range}
 use Rattle.abstract_route.specs.Rows.{IsBelow, single}
-use Rattle.net_types.specs.declared.routes.Route.{Route}
-use Rattle.net_types.specs.declared.routes.Source.{Source}
-use Rattle.net_types.specs.declared.routes.Source.TheVariants.{Local, Learned}
-use Rattle.net_types.specs.Better.{origin_rank}
-use Rattle.net_types.specs.Sets.{has, IsPart}
-
--- the router is on the path
-abbrev pub on_path : ℕ → List ℕ → Bool
-on_path router path = list_any (λ y. router == y) path
 
 -- the number is in the range
 abbrev pub Holds : Range → ℕ → Type 0
@@ -25,11 +19,11 @@ LacksRest communities lacks = (x : ℕ) → x < 64 → has communities x ≡ fal
 
 -- each router on the path is of the set
 abbrev pub StaysIn : List ℕ → ℕ → Type 0
-StaysIn path may = (x : ℕ) → on_path x path ≡ true → has may x ≡ true
+StaysIn path may = (x : ℕ) → is_on x path ≡ true → has may x ≡ true
 
 -- each router of the set is on the path
 abbrev pub PassesAll : List ℕ → ℕ → Type 0
-PassesAll path must = (x : ℕ) → has must x ≡ true → on_path x path ≡ true
+PassesAll path must = (x : ℕ) → has must x ≡ true → is_on x path ≡ true
 
 -- the route is one of those that the row speaks of
 pub record Fits (route : Route) (row : Row) : Type 0 where
@@ -44,14 +38,9 @@ pub record Fits (route : Route) (row : Row) : Type 0 where
   pub may : StaysIn route.path row.may
   pub must : PassesAll route.path row.must
 
--- the MED that an export carries: what a learned route came with stays at its router
-abbrev pub exported_med : Source → ℕ → ℕ
-exported_med Local med = med
-exported_med (Learned arc) med = 0
-
 -- the route is in the row: it fits with the MED that an export carries
 abbrev pub IsIn : Route → Row → Type 0
-IsIn route row = Fits (record route { med = exported_med route.source route.med }) row
+IsIn route row = Fits (record route { med = sent_med route.source route.med }) row
 
 -- the least row that the route fits
 pub record IsExact (route : Route) (row : Row) : Type 0 where
@@ -62,7 +51,7 @@ pub record IsExact (route : Route) (row : Row) : Type 0 where
 abbrev pub routers_of : List ℕ → ℕ
 routers_of path = fold (λ set x. bit_or set (2 ^ x)) 0 path
 
--- a value that is the least row that the route fits, see `exact_law`
+-- a value that is the least row that the route fits, see `law_of_exact_rows`
 abbrev pub exact_row : Route → Row
 exact_row route = record {
   weight = single route.weight;

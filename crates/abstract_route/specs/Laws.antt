@@ -1,6 +1,10 @@
 -- What is true of all rows and routes.
 use Rattle.std.specs.Prelude.{◌≡◌, ◌<◌, ◌≤◌, ◌*◌, ◌^◌, ◌↔◌, true, length, All}
 use Rattle.net_types.specs.declared.arcs.Arc.{Arc}
+use Rattle.net_types.specs.declared.routes.Route.{Route}
+use Rattle.net_types.specs.declared.routes.Source.TheVariants.{Local, Learned}
+use Rattle.net_types.specs.Better.{is_better}
+use Rattle.net_types.specs.NetValue.{NetValue}
 use Rattle.abstract_route.specs.declared.candidates.Candidate.{Candidate}
 use Rattle.abstract_route.specs.declared.rows.Row.{Row}
 use Rattle.abstract_route.specs.Beats.{beats, candidate_of, HasSender, IsBest, IsFrom, IsOf, IsWorst}
@@ -8,10 +12,6 @@ use Rattle.abstract_route.specs.Fits.{Fits, IsExact, IsIn, exact_row}
 use Rattle.abstract_route.specs.Heights.{row_rank}
 use Rattle.abstract_route.specs.OneRoute.{HasRoom, IsLike}
 use Rattle.abstract_route.specs.Rows.{IsBelow, IsJoin, IsRow, IsInhabited, carried_row, joined, inhabited, bottom}
-use Rattle.net_types.specs.declared.routes.Route.{Route}
-use Rattle.net_types.specs.declared.routes.Source.TheVariants.{Local, Learned}
-use Rattle.net_types.specs.Better.{is_better}
-use Rattle.net_types.specs.NetValue.{NetValue}
 
 -- each row is below itself
 abbrev pub BelowIsReflexive : Type 0
@@ -96,7 +96,9 @@ LocalIsIn = (route : Route) → route.communities < 2 ^ 64 → route.source ≡ 
 
 -- a learned route is in it with MED 0
 abbrev pub LearnedIsIn : Type 0
-LearnedIsIn = (route : Route) (arc : Arc) → route.communities < 2 ^ 64 → route.source ≡ Learned arc → IsIn route (carried_row (exact_row route))
+LearnedIsIn =
+    (route : Route) (arc : Arc) → route.communities < 2 ^ 64 → route.source ≡ Learned arc →
+    IsIn route (carried_row (exact_row route))
 
 -- of one route, the row that a learned route is kept in is the exact row of the route with MED 0
 abbrev pub CarriedIsExact : Type 0
@@ -141,4 +143,6 @@ BeatsOfRoutes =
 
 -- a route is one of its candidate's
 abbrev pub RouteIsOf : Type 0
-RouteIsOf = (net : NetValue) (route : Route) → route.communities < 2 ^ 64 → HasSender net route.source → IsOf net (candidate_of net route) route
+RouteIsOf =
+    (net : NetValue) (route : Route) → route.communities < 2 ^ 64 → HasSender net route.source →
+    IsOf net (candidate_of net route) route

@@ -1,10 +1,10 @@
 -- Which routes a row tells apart, and when it has room for a path. All of this is the project's own.
 use Rattle.std.specs.Prelude.{ℕ, ◌≡◌, ◌≤◌, ◌⊎◌, true, List, length}
 use Rattle.std.specs.List.{filter, range_with_len}
-use Rattle.abstract_route.specs.declared.rows.Row.{Row}
-use Rattle.abstract_route.specs.Fits.{on_path}
+use Rattle.net_types.specs.Routes.{is_on}
 use Rattle.net_types.specs.declared.routes.Route.{Route}
 use Rattle.net_types.specs.Sets.{has}
+use Rattle.abstract_route.specs.declared.rows.Row.{Row}
 
 -- the routes differ at most in the order of their paths and in where they come from
 pub record IsLike (a b : Route) : Type 0 where
@@ -14,7 +14,7 @@ pub record IsLike (a b : Route) : Type 0 where
   pub origin : a.origin ≡ b.origin
   pub med : a.med ≡ b.med
   pub communities : a.communities ≡ b.communities
-  pub routers : (x : ℕ) → on_path x a.path ≡ on_path x b.path
+  pub routers : (x : ℕ) → is_on x a.path ≡ is_on x b.path
 
 -- the numbers in the set, ascending
 abbrev pub members : ℕ → List ℕ

@@ -1,8 +1,8 @@
 -- Rows: what is known of the routes that may come to a router, and their order. All of this is the project's own.
 use Rattle.std.specs.Prelude.{ℕ, ◌≡◌, ◌<◌, ◌≤◌, ◌^◌, ◌||◌, ◌&&◌, nat_le, Bool, true, min, max, bit_or, bit_and}
+use Rattle.net_types.specs.Sets.{has, is_part, IsPart}
 use Rattle.abstract_route.specs.declared.rows.Row.{Row}
 use Rattle.abstract_route.specs.declared.rows.Range.{Range}
-use Rattle.net_types.specs.Sets.{has, is_part, IsPart}
 
 -- the one range lies in the other, word by word
 abbrev pub Lies : Range → Range → Type 0
@@ -30,7 +30,7 @@ pub record IsJoin (a b j : Row) : Type 0 where
 abbrev pub hull_of : Range → Range → Range
 hull_of a b = record { low = min a.low b.low; high = max a.high b.high }
 
--- a value that is the least row above both, see `order_laws`
+-- a value that is the least row above both, see `law_of_joins`
 abbrev pub joined : Row → Row → Row
 joined a b = record {
   weight = hull_of a.weight b.weight;
@@ -50,12 +50,23 @@ nowhere = record { low = 18446744073709551615; high = 0 }
 
 -- the least row, of no route; other rows have none too
 abbrev pub bottom : Row
-bottom = record { weight = nowhere; preference = nowhere; length = nowhere; origin = nowhere; med = nowhere; has = 0; lacks = 0; may = 0; must = 18446744073709551615 }
+bottom = record {
+  weight = nowhere;
+  preference = nowhere;
+  length = nowhere;
+  origin = nowhere;
+  med = nowhere;
+  has = 0;
+  lacks = 0;
+  may = 0;
+  must = 18446744073709551615;
+}
 
 -- each word of the row is a number of 64 bits
 pub record IsRow (r : Row) : Type 0 where
   pub low : (r.weight.low < 2 ^ 64) × (r.preference.low < 2 ^ 64) × (r.length.low < 2 ^ 64) × (r.origin.low < 2 ^ 64) × (r.med.low < 2 ^ 64)
-  pub high : (r.weight.high < 2 ^ 64) × (r.preference.high < 2 ^ 64) × (r.length.high < 2 ^ 64) × (r.origin.high < 2 ^ 64) × (r.med.high < 2 ^ 64)
+  pub high : (r.weight.high < 2 ^ 64) × (r.preference.high < 2 ^ 64) × (r.length.high < 2 ^ 64) × (r.origin.high < 2 ^ 64) ×
+      (r.med.high < 2 ^ 64)
   pub sets : (r.has < 2 ^ 64) × (r.lacks < 2 ^ 64) × (r.may < 2 ^ 64) × (r.must < 2 ^ 64)
 
 -- the range of one number
@@ -81,7 +92,7 @@ pub record IsInhabited (row : Row) : Type 0 where
   pub communities : (x : ℕ) → x < 64 → (has row.has x || has row.lacks x) ≡ true
   pub routers : IsPart row.must row.may
 
--- the same as a test, see `inhabited_law`
+-- the same as a test, see `law_of_inhabited_rows`
 abbrev pub inhabited : Row → Bool
 inhabited row =
     nat_le row.weight.low row.weight.high &&

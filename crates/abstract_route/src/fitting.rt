@@ -1,11 +1,10 @@
 //! Which routes a row speaks of.
 
 ghost use Rattle.std.specs.Prelude.{◌≡◌, ◌↔◌, ◌<◌, IsTrue, All};
-ghost use Rattle.abstract_route.specs.Fits.{Holds, IsIn, LacksRest, PassesAll, StaysIn, exported_med, routers_of};
-ghost use Rattle.net_types.specs.Better.{origin_rank};
+ghost use Rattle.abstract_route.specs.Fits.{Holds, IsIn, LacksRest, PassesAll, StaysIn, routers_of};
 
 use crate::{Range, Row};
-use net_types::{Bits64, Origin, Route, Source};
+use net_types::{Bits64, Route};
 
 /// Whether the route is in the row: it fits the row with the MED that an export carries, which is 0 for a
 /// learned route.
@@ -16,8 +15,8 @@ pub fn contains(row: &Row, route: &Route) -> bool
     holds(row.weight, u64::from(route.weight))
         && holds(row.preference, u64::from(route.preference))
         && holds(row.length, route.path.len() as u64)
-        && holds(row.origin, rank_of(route.origin))
-        && holds(row.med, u64::from(carried_med(route.source, route.med)))
+        && holds(row.origin, u64::from(route.origin.rank()))
+        && holds(row.med, u64::from(route.source.sent_med(route.med)))
         && route.communities.is_part(row.has)
         && lacks_rest(route.communities, row.lacks)
         && stays_in(route.path.as_slice(), row.may)
@@ -51,25 +50,6 @@ fn holds(range: Range, number: u64) -> bool
     ensures { IsTrue result ↔ Holds range number }
 {
     range.low <= number && number <= range.high
-}
-
-fn rank_of(origin: Origin) -> u64
-    ensures { result ≡ origin_rank origin }
-{
-    match origin {
-        Origin::Igp => 0,
-        Origin::Egp => 1,
-        Origin::Incomplete => 2,
-    }
-}
-
-fn carried_med(source: Source, med: u32) -> u32
-    ensures { result ≡ exported_med source med }
-{
-    match source {
-        Source::Local => med,
-        Source::Learned(_) => 0,
-    }
 }
 
 fn path_routers(path: &[u8]) -> Bits64

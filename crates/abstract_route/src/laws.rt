@@ -8,7 +8,7 @@ ghost use Rattle.abstract_route.specs.Rows.{bottom};
 use crate::{BOTTOM, Row};
 
 /// Below is an order, and the join is the least row above both.
-pub fn order_laws()
+pub fn law_of_joins()
     ensures reflexive { BelowIsReflexive }
     ensures transitive { BelowIsTransitive }
     ensures antisymmetric { BelowIsAntisymmetric }
@@ -17,7 +17,7 @@ pub fn order_laws()
 {}
 
 /// The row of no route is a row, below each other, and no route fits it.
-pub fn bottom_law()
+pub fn law_of_bottom()
     ensures row { BottomIsRow }
     ensures below { BottomIsBelow }
     ensures none { BottomFitsNone }
@@ -31,7 +31,7 @@ pub fn bottom_value() -> Row
 }
 
 /// A rising chain of rows ends: the rank rises with each step, and is bounded.
-pub fn rank_laws()
+pub fn law_of_ranks()
     ensures rises { RankRises }
     ensures strict { RankIsStrict }
     ensures bounded { RankIsBounded }
@@ -39,33 +39,33 @@ pub fn rank_laws()
 
 /// The test for an inhabited row is exact, each row above an inhabited one is inhabited, and exactly those inhabited
 /// rows have a route that begin at an origin and have room for a path.
-pub fn inhabited_law()
+pub fn law_of_inhabited_rows()
     ensures test { InhabitedIs }
     ensures up { InhabitedUp }
     ensures route { HasRouteWhere }
 {}
 
 /// A route that fits a row fits each row above, and only inhabited rows have routes that fit.
-pub fn fits_law()
+pub fn law_of_fitting()
     ensures up { FitsUp }
     ensures inhabited { FitIsInhabited }
 {}
 
 /// Each route has an exact row, the least that it fits, and only routes like it fit it.
-pub fn exact_law()
+pub fn law_of_exact_rows()
     ensures least { ExactIsLeast }
     ensures row { ExactIsRow }
     ensures one { ExactFitsOne }
 {}
 
 /// A route is in its exact row with the MED that an export carries: its own where it is local, else 0.
-pub fn in_law()
+pub fn law_of_containing()
     ensures local { LocalIsIn }
     ensures learned { LearnedIsIn }
 {}
 
 /// The row that a learned route is kept in grows with its row, and speaks of the row's routes with MED 0.
-pub fn carried_laws()
+pub fn law_of_carried_rows()
     ensures row { CarriedIsRow }
     ensures exact { CarriedIsExact }
     ensures up { CarriedUp }
@@ -73,13 +73,13 @@ pub fn carried_laws()
 {}
 
 /// Where a candidate beats another, each of its routes is better than each of the other's.
-pub fn beats_law()
+pub fn law_of_beating()
     ensures { BeatsIsSound }
 {}
 
 /// A candidate beats another exactly where its worst route is better than the best of the other; so where they have
 /// such routes, exactly where each of its routes is better. Candidates of one route each beat as their routes do.
-pub fn beats_exactly_law()
+pub fn law_of_exact_beating()
     ensures worst { BeatsIsExact }
     ensures each { BeatsIsEach }
     ensures routes { BeatsOfRoutes }

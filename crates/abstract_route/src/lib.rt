@@ -21,7 +21,8 @@ mod tests;
 pub use candidates::{Candidate, beats};
 pub use fitting::contains;
 pub use laws::{
-    beats_exactly_law, beats_law, bottom_law, bottom_value, carried_laws, exact_law, fits_law,
-    in_law, inhabited_law, order_laws, rank_laws,
+    bottom_value, law_of_beating, law_of_bottom, law_of_carried_rows, law_of_containing,
+    law_of_exact_beating, law_of_exact_rows, law_of_fitting, law_of_inhabited_rows, law_of_joins,
+    law_of_ranks,
 };
 pub use rows::{BOTTOM, Range, Row, carried, is_below, is_inhabited, join};

@@ -5,7 +5,7 @@ use Rattle.std.proofs.lemmas.Map.Steps.{length-le_from_distinct_below}
 use Rattle.std.proofs.lemmas.Bool.Decides.{nat_tests}
 use Rattle.net_types.specs.declared.arcs.Arc.{Arc}
 use Rattle.net_types.specs.declared.routes.Route.{Route}
-use Rattle.concrete_algebra.specs.Carrying.{is_on}
+use Rattle.net_types.specs.Routes.{is_on}
 use Rattle.concrete_algebra.specs.Chains.{CandidatePathsAreShort, ChainsAreShort, IsChain, LabelPathsAreShort, LabelsHaveChains, PathsAreChains, PathsAreHeld}
 use Rattle.concrete_algebra.specs.Laws.{CarriedPath, IsRouting}
 use Rattle.concrete_algebra.specs.Problem.{Problem}

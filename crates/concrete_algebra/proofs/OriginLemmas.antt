@@ -10,9 +10,10 @@ use Rattle.net_types.specs.declared.routes.Route.{Route}
 use Rattle.net_types.specs.NetValue.{NetValue}
 use Rattle.net_types.specs.PrefixValue.{PrefixValue}
 use Rattle.net_types.specs.Prefixes.{same_prefix}
+use Rattle.net_types.specs.Owners.{entry_of}
 use Rattle.concrete_algebra.specs.Chains.{IsChain}
 use Rattle.concrete_algebra.specs.Laws.{IsRouting}
-use Rattle.concrete_algebra.specs.LocalRoutes.{entry_of, local_of, originated, ospf_route, owner_route, route_by_entry}
+use Rattle.concrete_algebra.specs.LocalRoutes.{local_of, originated, ospf_route, owner_route, route_by_entry}
 use Rattle.concrete_algebra.specs.Maps.{map_gives}
 use Rattle.concrete_algebra.specs.Origins.{BringsNothing, IsSilent, NoOriginIsStable, NoOriginNoLabels, NothingOriginated}
 use Rattle.concrete_algebra.specs.Problem.{Problem}

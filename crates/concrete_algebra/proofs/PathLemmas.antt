@@ -16,7 +16,8 @@ use Rattle.net_types.specs.Arcs.{from_end, to_end}
 use Rattle.net_types.specs.NetFacts.{IsNet, IsNetMap, IsNetMapEntry, IsRouter}
 use Rattle.net_types.specs.NetValue.{NetValue}
 use Rattle.net_types.specs.PrefixValue.{PrefixValue}
-use Rattle.concrete_algebra.specs.Carrying.{as_received, end_sends, end_takes, is_kept_home, is_on, learned_over, sent_by, sent_med}
+use Rattle.net_types.specs.Routes.{is_on, sent_med}
+use Rattle.concrete_algebra.specs.Carrying.{as_received, end_sends, end_takes, is_kept_home, learned_over, sent_by}
 use Rattle.concrete_algebra.specs.Maps.{entries_give, entry_gives, entry_matches, map_entries, map_gives, under_sets}
 use Rattle.concrete_algebra.proofs.OptionLemmas.{at_place, of_and_then, of_either, of_map, of_none_if, of_some_if}
 

@@ -17,9 +17,11 @@ use Rattle.net_types.specs.FailSets.{holds}
 use Rattle.net_types.specs.NetFacts.{IsEnd, IsLink, IsNet}
 use Rattle.net_types.specs.NetValue.{NetValue}
 use Rattle.net_types.specs.PrefixValue.{PrefixValue}
-use Rattle.concrete_algebra.specs.Carrying.{carry_gives, end_sends, end_takes, export_gives, import_gives, is_on}
+use Rattle.net_types.specs.Routes.{is_on}
+use Rattle.net_types.specs.Owners.{entry_of}
+use Rattle.concrete_algebra.specs.Carrying.{carry_gives, end_sends, end_takes, export_gives, import_gives}
 use Rattle.concrete_algebra.specs.Laws.{CarriedPath, LocalPath, NetworksRoute}
-use Rattle.concrete_algebra.specs.LocalRoutes.{entry_of, local_of, originated, ospf_route, owner_route, route_by_entry}
+use Rattle.concrete_algebra.specs.LocalRoutes.{local_of, originated, ospf_route, owner_route, route_by_entry}
 use Rattle.concrete_algebra.specs.Maps.{map_gives}
 use Rattle.concrete_algebra.specs.Problem.{problem_of}
 use Rattle.concrete_algebra.proofs.OptionLemmas.{at_place, of_and_then}

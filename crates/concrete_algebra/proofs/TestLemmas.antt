@@ -155,7 +155,7 @@ pub net_is : (a b c : Router) (p q r x y z : Policy) →
 net_is a b c p q r x y z ha hb hc sa sb sc ma mb mc va vb vc ip iq ir ix iy iz = record {
   few_routers = lit≤ tt;
   hosts = each_pair (λ (u v : Router). text_before u.host v.host ≡ true) a b c (before a b (97 ∷ []) (98 ∷ []) ha hb refl) (before a c (97 ∷ []) (99 ∷ []) ha hc refl) (before b c (98 ∷ []) (99 ∷ []) hb hc refl);
-  systems = each_pair (λ (u v : Router). AreApart u.asn v.asn) a b c (apart a b sa) (apart a c sa) (apart b c sb);
+  asns = each_pair (λ (u v : Router). AreApart u.asn v.asn) a b c (apart a b sa) (apart a c sa) (apart b c sb);
   routers = all_three (IsRouter 7) a b c va vb vc;
   few_links = lit≤ tt;
   subnets = each_pair (λ (u v : Link). prefix_before u.subnet v.subnet ≡ true) (side 167772160 0 1 p x) (side 167772416 0 2 q y) (side 167772672 1 2 r z) refl refl refl;

@@ -1,23 +1,19 @@
 -- What an arc of a session carries: the sender's export, then the receiver's import, after RFC 4271, sections
 -- 5.1 and 9.1.2, and RFC 1997. Weight, and the routers in place of AS numbers on a path, are this project's own.
-use Rattle.std.specs.Prelude.{ℕ, ◌==◌, ◌||◌, Bool, false, List, ◌∷◌, Option, None, position, option_map, option_and_then, if◌then◌else◌}
-use Rattle.std.specs.List.{list_any}
+use Rattle.std.specs.Prelude.{ℕ, ◌||◌, Bool, false, ◌∷◌, Option, None, option_map, option_and_then, if◌then◌else◌}
 use Rattle.std.specs.Option.{option_map_or}
 use Rattle.net_types.specs.declared.arcs.Arc.{Arc}
 use Rattle.net_types.specs.declared.network.Link.{Link}
 use Rattle.net_types.specs.declared.routes.Route.{Route}
-use Rattle.net_types.specs.declared.routes.Source.{Source}
-use Rattle.net_types.specs.declared.routes.Source.TheVariants.{Local, Learned}
+use Rattle.net_types.specs.declared.routes.Source.TheVariants.{Learned}
 use Rattle.net_types.specs.Arcs.{from_end, link_of, to_end}
 use Rattle.net_types.specs.NetFacts.{no_export, no_advertise}
 use Rattle.net_types.specs.NetValue.{NetValue}
+use Rattle.net_types.specs.Numbering.{community_number}
 use Rattle.net_types.specs.PrefixValue.{PrefixValue}
+use Rattle.net_types.specs.Routes.{is_on, sent_med}
 use Rattle.net_types.specs.Sets.{has}
 use Rattle.concrete_algebra.specs.Maps.{map_gives}
-
--- the number of a community of the network: the place of its value
-abbrev pub community_number : NetValue → ℕ → Option ℕ
-community_number net value = position (λ community. community == value) net.communities
 
 -- the community of this value is among those held
 abbrev pub holds_value : NetValue → ℕ → ℕ → Bool
@@ -26,11 +22,6 @@ holds_value net value held = option_map_or (λ number. has held number) (communi
 -- a route with these communities is sent to no neighbor: it holds NO_EXPORT or NO_ADVERTISE
 abbrev pub is_kept_home : NetValue → ℕ → Bool
 is_kept_home net held = holds_value net no_export held || holds_value net no_advertise held
-
--- the MED that is sent: that of a local route, and 0 for a learned one
-abbrev pub sent_med : Source → ℕ → ℕ
-sent_med Local med = med
-sent_med (Learned arc) med = 0
 
 -- the route with the router in front of its path once more
 abbrev pub sent_by : ℕ → Route → Route
@@ -47,10 +38,6 @@ end_sends net prefix down link route =
 -- export over an arc
 unfoldable pub export_gives : NetValue → PrefixValue → Arc → Route → Option Route
 export_gives net prefix arc route = option_and_then (λ link. end_sends net prefix arc.down link route) (link_of net arc)
-
--- the router is on the path
-abbrev pub is_on : ℕ → List ℕ → Bool
-is_on router path = list_any (λ hop. router == hop) path
 
 -- the route as the receiver begins with it
 abbrev pub as_received : Route → Route

@@ -2,7 +2,7 @@
 use Rattle.std.specs.Prelude.{ℕ, ◌≡◌, ◌<◌, ◌≤◌, ◌*◌, true, List, [], ◌∷◌, length, Option, Some}
 use Rattle.net_types.specs.declared.arcs.Arc.{Arc}
 use Rattle.net_types.specs.declared.routes.Route.{Route}
-use Rattle.concrete_algebra.specs.Carrying.{is_on}
+use Rattle.net_types.specs.Routes.{is_on}
 use Rattle.concrete_algebra.specs.Laws.{IsRouting}
 use Rattle.concrete_algebra.specs.Problem.{Problem}
 use Rattle.concrete_algebra.specs.Stability.{Arrives, IsStable, label_at}

@@ -48,16 +48,20 @@ pub record IsFound (property : Arc → Type 0) (links : ℕ) (found : Bool) : Ty
   pub is : IsTrue found ↔ ((arc : Arc) × (arc.link < links) × property arc)
 
 -- what the candidates over the first links say of u's label
-pub record LinksSay (net : NetValue) (prefix : PrefixValue) (failed : List ℕ) (labels : List (Option Route)) (u links : ℕ) (findings : Findings) : Type 0 where
-  pub among : IsFound (λ arc. IsSomeAnd (arrival net prefix failed labels u arc) (λ route. label_at labels u ≡ Some route)) links findings.among
-  pub preferred : IsFound (λ arc. IsSomeAnd (arrival net prefix failed labels u arc) (λ route. IsPreferred net (label_at labels u) route)) links findings.preferred
+pub record LinksSay (net : NetValue) (prefix : PrefixValue) (failed : List ℕ) (labels : List (Option Route)) (u links : ℕ)
+    (findings : Findings) : Type 0 where
+  pub among : IsFound (λ arc. IsSomeAnd (arrival net prefix failed labels u arc) (λ route. label_at labels u ≡ Some route))
+      links findings.among
+  pub preferred : IsFound (λ arc. IsSomeAnd (arrival net prefix failed labels u arc)
+      (λ route. IsPreferred net (label_at labels u) route)) links findings.preferred
 
 -- both findings
 abbrev pub either_of : Findings → Findings → Findings
 either_of a b = record { among = a.among || b.among; preferred = a.preferred || b.preferred }
 
 -- what the two directions of a link say of u's label
-pub record LinkSays (net : NetValue) (prefix : PrefixValue) (failed : List ℕ) (labels : List (Option Route)) (u link : ℕ) (findings : Findings) : Type 0 where
+pub record LinkSays (net : NetValue) (prefix : PrefixValue) (failed : List ℕ) (labels : List (Option Route)) (u link : ℕ)
+    (findings : Findings) : Type 0 where
   pub up : Findings
   pub down : Findings
   pub up_says : Says net (label_at labels u) (arrival net prefix failed labels u (record { link = link; down = false })) up
@@ -67,7 +71,8 @@ pub record LinkSays (net : NetValue) (prefix : PrefixValue) (failed : List ℕ) 
 -- what all candidates of u say of its label
 pub record AllSay (net : NetValue) (problem : Problem) (labels : List (Option Route)) (u : ℕ) (findings : Findings) : Type 0 where
   pub among : IsTrue findings.among ↔ ((route : Route) × IsCandidate problem labels u route × (label_at labels u ≡ Some route))
-  pub preferred : IsTrue findings.preferred ↔ ((route : Route) × IsCandidate problem labels u route × IsPreferred net (label_at labels u) route)
+  pub preferred : IsTrue findings.preferred ↔
+      ((route : Route) × IsCandidate problem labels u route × IsPreferred net (label_at labels u) route)
 
 -- whether a router may hold its label, after what all candidates say: none where there is none to take, else one of
 -- them where none is better

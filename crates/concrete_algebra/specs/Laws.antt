@@ -9,7 +9,7 @@ use Rattle.net_types.specs.NetFacts.{IsNet, IsNetCommunityEntry}
 use Rattle.net_types.specs.NetValue.{NetValue}
 use Rattle.net_types.specs.PrefixValue.{PrefixValue}
 use Rattle.net_types.specs.Sets.{has}
-use Rattle.concrete_algebra.specs.Carrying.{is_on}
+use Rattle.net_types.specs.Routes.{is_on}
 use Rattle.concrete_algebra.specs.Maps.{deleted_by, is_deleted}
 use Rattle.concrete_algebra.specs.Problem.{Problem, problem_of}
 
@@ -41,7 +41,8 @@ pub record IsRouting (problem : Problem) : Type 0 where
   pub link : (arc : Arc) → problem.up arc ≡ true → arc.link < problem.links
   pub sender : (arc : Arc) → problem.up arc ≡ true → problem.sender arc < problem.routers
   pub receiver : (arc : Arc) → problem.up arc ≡ true → problem.receiver arc < problem.routers
-  pub carried : (arc : Arc) (sent route : Route) → problem.up arc ≡ true → problem.carry arc sent ≡ Some route → CarriedPath problem arc sent route
+  pub carried : (arc : Arc) (sent route : Route) → problem.up arc ≡ true → problem.carry arc sent ≡ Some route →
+      CarriedPath problem arc sent route
   pub local : (u : ℕ) (route : Route) → problem.local u ≡ Some route → LocalPath u route
 
 -- the problem of each network has it

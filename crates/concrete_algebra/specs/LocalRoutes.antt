@@ -1,6 +1,6 @@
 -- The routes that routers originate: what a `network` line names, and what is redistributed into BGP. This
 -- project's own, after the configuration language of FRR.
-use Rattle.std.specs.Prelude.{ℕ, List, [], Option, Some, None, find, slice_get, option_and_then, if◌then◌else◌}
+use Rattle.std.specs.Prelude.{ℕ, [], Option, Some, None, slice_get, option_and_then, if◌then◌else◌}
 use Rattle.net_types.specs.declared.config.Origin.{Origin}
 use Rattle.net_types.specs.declared.config.Origin.TheVariants.{Igp, Incomplete}
 use Rattle.net_types.specs.declared.network.Owned.{Owned}
@@ -8,13 +8,9 @@ use Rattle.net_types.specs.declared.network.Router.{Router}
 use Rattle.net_types.specs.declared.routes.Route.{Route}
 use Rattle.net_types.specs.declared.routes.Source.TheVariants.{Local}
 use Rattle.net_types.specs.NetValue.{NetValue}
+use Rattle.net_types.specs.Owners.{entry_of}
 use Rattle.net_types.specs.PrefixValue.{PrefixValue}
-use Rattle.net_types.specs.Prefixes.{same_prefix}
 use Rattle.concrete_algebra.specs.Maps.{map_gives}
-
--- the entry of the prefix among what a router owns, where it is an owner
-abbrev pub entry_of : PrefixValue → List Owned → Option Owned
-entry_of prefix owned = find (λ entry. same_prefix entry.prefix prefix) owned
 
 -- a local route as it begins, with this origin and MED
 abbrev pub originated : Origin → ℕ → Route

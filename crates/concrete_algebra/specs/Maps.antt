@@ -37,7 +37,9 @@ community_list_permits held (entry ∷ later) = if is_part entry.values held the
 -- the communities that a list deletes: those for which the first entry that names them is a permit
 unfoldable pub deleted_by : List NetCommunityEntry → ℕ
 deleted_by [] = 0
-deleted_by (entry ∷ later) = if entry.permit then bit_or entry.values (deleted_by later) else bit_and (deleted_by later) (bit_not w64 entry.values)
+deleted_by (entry ∷ later) =
+    if entry.permit then bit_or entry.values (deleted_by later)
+    else bit_and (deleted_by later) (bit_not w64 entry.values)
 
 -- the same asked of one community; one that no entry names is not deleted
 unfoldable pub is_deleted : ℕ → List NetCommunityEntry → Bool
@@ -100,7 +102,8 @@ entry_gives router u entry route = if entry.permit then Some (under_sets router 
 unfoldable pub entries_give : Router → ℕ → PrefixValue → List NetMapEntry → Route → Option Route
 entries_give router u prefix [] route = None
 entries_give router u prefix (entry ∷ later) route =
-    if entry_matches router prefix entry route.communities then entry_gives router u entry route else entries_give router u prefix later route
+    if entry_matches router prefix entry route.communities then entry_gives router u entry route
+    else entries_give router u prefix later route
 
 -- what a policy of router u gives of a route for the prefix: a closed one nothing, an open one the route as it
 -- is, and a map what its entries give

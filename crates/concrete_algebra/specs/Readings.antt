@@ -1,8 +1,6 @@
 -- The rules once more, in other words. Each definition is proved to say the same as its reading here.
-use Rattle.std.specs.Prelude.{ℕ, ◌≡◌, ◌<◌, ◌++◌, ◌⊎◌, ◌↔◌, ◌&&◌, ◌||◌, Bool, true, false, not, List, ◌∷◌, length, Option, Some, None, All}
+use Rattle.std.specs.Prelude.{ℕ, ◌≡◌, ◌<◌, ◌++◌, ◌&&◌, ◌||◌, Bool, true, false, not, List, ◌∷◌, Option, Some, None, All}
 use Rattle.net_types.specs.declared.arcs.Arc.{Arc}
-use Rattle.net_types.specs.declared.config.Origin.{Origin}
-use Rattle.net_types.specs.declared.config.Origin.TheVariants.{Igp, Egp, Incomplete}
 use Rattle.net_types.specs.declared.config.PrefixEntry.{PrefixEntry}
 use Rattle.net_types.specs.declared.network.Link.{Link}
 use Rattle.net_types.specs.declared.network.NetCommunityEntry.{NetCommunityEntry}
@@ -12,68 +10,32 @@ use Rattle.net_types.specs.declared.network.NetSetCommunity.TheVariants.{Keep, R
 use Rattle.net_types.specs.declared.network.Policy.TheVariants.{Open}
 use Rattle.net_types.specs.declared.network.Router.{Router}
 use Rattle.net_types.specs.declared.routes.Route.{Route}
-use Rattle.net_types.specs.declared.routes.Source.TheVariants.{Local, Learned}
-use Rattle.net_types.specs.Arcs.{from_end, link_of, sender_of, to_end}
-use Rattle.net_types.specs.Better.{is_better}
+use Rattle.net_types.specs.declared.routes.Source.TheVariants.{Learned}
+use Rattle.net_types.specs.Arcs.{from_end, link_of, to_end}
 use Rattle.net_types.specs.NetFacts.{IsNetCommunityEntry}
 use Rattle.net_types.specs.NetValue.{NetValue}
 use Rattle.net_types.specs.Owners.{owns}
 use Rattle.net_types.specs.PrefixValue.{PrefixValue}
 use Rattle.net_types.specs.Sets.{has, is_part}
-use Rattle.concrete_algebra.specs.Carrying.{carry_gives, is_kept_home, is_on, sent_med}
+use Rattle.net_types.specs.Routes.{is_on, sent_med}
+use Rattle.concrete_algebra.specs.Carrying.{carry_gives, is_kept_home}
 use Rattle.concrete_algebra.specs.LocalRoutes.{local_of}
 use Rattle.concrete_algebra.specs.Maps.{community_entries, community_list_permits, entries_give, entry_gives, entry_matches, is_deleted, prefix_entry_matches, prefix_list_permits, with_set, without_deleted}
-
--- ---- the order of routes
-
--- learned over some arc
-abbrev pub IsLearned : Route → Type 0
-IsLearned route = (arc : Arc) × (route.source ≡ Learned arc)
-
-abbrev pub IsLocal : Route → Type 0
-IsLocal route = route.source ≡ Local
-
--- both local, or both learned
-abbrev pub AreOfOneKind : Route → Route → Type 0
-AreOfOneKind a b = (IsLocal a × IsLocal b) ⊎ (IsLearned a × IsLearned b)
-
--- the one origin comes before the other
-abbrev pub IsLowerOrigin : Origin → Origin → Type 0
-IsLowerOrigin Igp Egp = Unit {0}
-IsLowerOrigin Igp Incomplete = Unit {0}
-IsLowerOrigin Egp Incomplete = Unit {0}
-IsLowerOrigin _ _ = ⊥
-
--- both routes come from one router, maybe over two links, and the MED of a is less
-abbrev pub HasLessMed : NetValue → Route → Route → Type 0
-HasLessMed net a b =
-    (over : Arc) × (other : Arc) × (sender : ℕ) × (a.source ≡ Learned over) × (b.source ≡ Learned other) ×
-    (sender_of net over ≡ Some sender) × (sender_of net other ≡ Some sender) × (a.med < b.med)
-
--- a has more weight; or as much, and more preference; and so on
-abbrev pub IsAhead : NetValue → Route → Route → Type 0
-IsAhead net a b =
-    (b.weight < a.weight) ⊎ ((b.weight ≡ a.weight) ×
-    ((b.preference < a.preference) ⊎ ((b.preference ≡ a.preference) ×
-    ((IsLocal a × IsLearned b) ⊎ (AreOfOneKind a b ×
-    ((length a.path < length b.path) ⊎ ((length a.path ≡ length b.path) ×
-    (IsLowerOrigin a.origin b.origin ⊎ ((a.origin ≡ b.origin) × HasLessMed net a b)))))))))
-
-abbrev pub BetterIsAhead : Type 0
-BetterIsAhead = (net : NetValue) (a b : Route) → (is_better net a b ≡ true) ↔ IsAhead net a b
 
 -- ---- the first entry that matches decides
 
 abbrev pub FirstEntryGives : Type 0
 FirstEntryGives =
     (router : Router) (u : ℕ) (prefix : PrefixValue) (before later : List NetMapEntry) (entry : NetMapEntry) (route : Route) →
-    All (λ (e : NetMapEntry). entry_matches router prefix e route.communities ≡ false) before → entry_matches router prefix entry route.communities ≡ true →
+    All (λ (e : NetMapEntry). entry_matches router prefix e route.communities ≡ false) before →
+    entry_matches router prefix entry route.communities ≡ true →
     entries_give router u prefix (before ++ entry ∷ later) route ≡ entry_gives router u entry route
 
 abbrev pub NoEntryGives : Type 0
 NoEntryGives =
     (router : Router) (u : ℕ) (prefix : PrefixValue) (entries : List NetMapEntry) (route : Route) →
-    All (λ (e : NetMapEntry). entry_matches router prefix e route.communities ≡ false) entries → entries_give router u prefix entries route ≡ None
+    All (λ (e : NetMapEntry). entry_matches router prefix e route.communities ≡ false) entries →
+    entries_give router u prefix entries route ≡ None
 
 abbrev pub FirstPrefixPermits : Type 0
 FirstPrefixPermits =
@@ -97,12 +59,16 @@ has_after (Add values) held community = held || has values community
 has_after Clear held community = false
 
 abbrev pub SetsByMember : Type 0
-SetsByMember = (set : NetSetCommunity) (held community : ℕ) → has (with_set set held) community ≡ has_after set (has held community) community
+SetsByMember =
+    (set : NetSetCommunity) (held community : ℕ) →
+    has (with_set set held) community ≡ has_after set (has held community) community
 
 abbrev pub DeletesByMember : Type 0
 DeletesByMember =
-    (count : ℕ) (router : Router) (position held community : ℕ) → All (IsNetCommunityEntry count) (community_entries router position) → community < 64 →
-    has (without_deleted router (Some position) held) community ≡ (has held community && not (is_deleted community (community_entries router position)))
+    (count : ℕ) (router : Router) (position held community : ℕ) →
+    All (IsNetCommunityEntry count) (community_entries router position) → community < 64 →
+    has (without_deleted router (Some position) held) community ≡
+    (has held community && not (is_deleted community (community_entries router position)))
 
 -- ---- an arc whose sides are open
 
@@ -115,17 +81,29 @@ pub record IsOpenArc (net : NetValue) (arc : Arc) (link : Link) : Type 0 where
 -- the route as it arrives
 abbrev pub arriving : Arc → ℕ → Route → Route
 arriving arc sender route =
-    record { weight = 0; preference = 100; path = sender ∷ route.path; origin = route.origin; med = sent_med route.source route.med; communities = route.communities; source = Learned arc }
+    record {
+      weight = 0;
+      preference = 100;
+      path = sender ∷ route.path;
+      origin = route.origin;
+      med = sent_med route.source route.med;
+      communities = route.communities;
+      source = Learned arc;
+    }
 
 -- what an open arc carries: nothing that is kept home, and nothing whose path has the receiver
 pub record OpenArcCarries (net : NetValue) (prefix : PrefixValue) (arc : Arc) (link : Link) (route : Route) : Type 0 where
   pub home : is_kept_home net route.communities ≡ true → carry_gives net prefix arc route ≡ None
-  pub loop : is_on (to_end arc.down link).router ((from_end arc.down link).router ∷ route.path) ≡ true → carry_gives net prefix arc route ≡ None
-  pub arrives : is_kept_home net route.communities ≡ false → is_on (to_end arc.down link).router ((from_end arc.down link).router ∷ route.path) ≡ false →
+  pub loop : is_on (to_end arc.down link).router ((from_end arc.down link).router ∷ route.path) ≡ true →
+      carry_gives net prefix arc route ≡ None
+  pub arrives : is_kept_home net route.communities ≡ false →
+      is_on (to_end arc.down link).router ((from_end arc.down link).router ∷ route.path) ≡ false →
       carry_gives net prefix arc route ≡ Some (arriving arc (from_end arc.down link).router route)
 
 abbrev pub OpenArcsCarry : Type 0
-OpenArcsCarry = (net : NetValue) (prefix : PrefixValue) (arc : Arc) (link : Link) (route : Route) → IsOpenArc net arc link → OpenArcCarries net prefix arc link route
+OpenArcsCarry =
+    (net : NetValue) (prefix : PrefixValue) (arc : Arc) (link : Link) (route : Route) → IsOpenArc net arc link →
+    OpenArcCarries net prefix arc link route
 
 -- ---- owners and OSPF's routes
 

@@ -1,55 +1,32 @@
 //! What the arcs of sessions carry.
 
-ghost use Rattle.std.specs.Prelude.{◌≡◌, ◌<◌, IfOk, IfSome, length};
+ghost use Rattle.std.specs.Prelude.{◌≡◌, IfOk};
 ghost use Rattle.net_types.specs.Arcs.{from_end, to_end};
-ghost use Rattle.concrete_algebra.specs.Carrying.{carry_gives, community_number, end_sends, end_takes, export_gives, holds_value, import_gives, is_kept_home, is_on, sent_by, sent_med};
+ghost use Rattle.net_types.specs.Routes.{is_on};
+ghost use Rattle.concrete_algebra.specs.Carrying.{carry_gives, end_sends, end_takes, export_gives, holds_value, import_gives, is_kept_home, sent_by};
 
-use crate::copies::{copy_of, prepended};
+use crate::copies::prepended;
 use crate::maps::run_map;
-use net_types::{Arc, Bits64, End, Link, Net, NoMemory, Prefix, Route, Source};
+use net_types::{
+    Arc, Bits64, End, Link, NO_ADVERTISE, NO_EXPORT, Net, NoMemory, Prefix, Route, Source,
+};
 use std::alloc::Global;
 
-// NO_EXPORT and NO_ADVERTISE of RFC 1997.
-const NO_EXPORT: u32 = 0xFFFF_FF01;
-
-const NO_ADVERTISE: u32 = 0xFFFF_FF02;
-
-// The number of the community of this value.
-fn community_number(net: &Net, value: u32) -> Option<usize>
-    ensures number { result ≡ community_number net.now value }
-    ensures bound { IfSome result (λ number. number < length net.now.communities) }
-{
-    net.communities()
-        .iter()
-        .position(|community| *community == value)
-}
-
-// Whether the community of this value is among those held.
-fn holds_value(net: &Net, value: u32, held: Bits64) -> bool
+/// Whether the community of this value is among those held; not so where the network has no such community.
+pub fn holds_value(net: &Net, value: u32, held: Bits64) -> bool
     ensures { result ≡ holds_value net.now value held }
 {
-    net.valid();
-    match community_number(net, value) {
-        Some(number) => held.has(number as u8),
+    match net.community_number(value) {
+        Some(number) => held.has(number),
         None => false,
     }
 }
 
-// Whether a route with these communities is sent to no neighbor.
-fn is_kept_home(net: &Net, held: Bits64) -> bool
+/// Whether a route with these communities is sent to no neighbor: it holds NO_EXPORT or NO_ADVERTISE (RFC 1997).
+pub fn is_kept_home(net: &Net, held: Bits64) -> bool
     ensures { result ≡ is_kept_home net.now held }
 {
     holds_value(net, NO_EXPORT, held) || holds_value(net, NO_ADVERTISE, held)
-}
-
-// The MED that is sent.
-fn sent_med(source: Source, med: u32) -> u32
-    ensures { result ≡ sent_med source med }
-{
-    match source {
-        Source::Local => med,
-        Source::Learned(_) => 0,
-    }
 }
 
 // The route with the sender in front of its path.
@@ -89,8 +66,8 @@ fn end_sends(
         return Ok(None);
     }
     let end = from_end(down, link);
-    let mut own = copy_of(alloc, route)?;
-    own.med = sent_med(route.source, route.med);
+    let mut own = route.copy(alloc)?;
+    own.med = route.source.sent_med(route.med);
     match run_map(alloc, net, end.router, end.export, prefix, &own)? {
         None => Ok(None),
         Some(given) => Ok(Some(sent_by(alloc, end.router, given)?)),
@@ -119,7 +96,7 @@ fn end_takes(
     if is_on(end.router, route.path.as_slice()) {
         return Ok(None);
     }
-    let mut received = copy_of(alloc, route)?;
+    let mut received = route.copy(alloc)?;
     received.weight = 0;
     received.preference = 100;
     match run_map(alloc, net, end.router, end.import, prefix, &received)? {

@@ -1,4 +1,4 @@
-//! Copies of routes, and when two routes are the same.
+//! Longer paths, and when two routes are the same.
 
 ghost use Rattle.std.specs.Prelude.{◌≡◌, ◌++◌, ◌∷◌, ◌↔◌, IfOk, IsTrue, replicate};
 
@@ -20,21 +20,6 @@ pub(crate) fn prepended(
     }
     longer.extend_from_slice(path)?;
     Ok(List::from_vec(longer))
-}
-
-/// The same route once more.
-pub(crate) fn copy_of(alloc: Global, route: &Route) -> Result<Route, NoMemory>
-    ensures { IfOk result (λ copy. copy ≡ route.now) }
-{
-    Ok(Route {
-        weight: route.weight,
-        preference: route.preference,
-        path: List::from_slice(alloc, route.path.as_slice())?,
-        origin: route.origin,
-        med: route.med,
-        communities: route.communities,
-        source: route.source,
-    })
 }
 
 /// Whether two routes are the same.

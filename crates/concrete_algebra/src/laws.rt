@@ -4,7 +4,7 @@
 ghost use Rattle.concrete_algebra.specs.Chains.{CandidatePathsAreShort, ChainsAreShort, LabelPathsAreShort, LabelsHaveChains, PathsAreChains, PathsAreHeld};
 ghost use Rattle.concrete_algebra.specs.Laws.{NetworksRoute, DeletesAreNamed};
 ghost use Rattle.concrete_algebra.specs.Origins.{NoOriginIsStable, NoOriginNoLabels, NothingOriginated};
-ghost use Rattle.concrete_algebra.specs.Readings.{BetterIsAhead, DeletesByMember, FirstCommunityPermits, FirstEntryGives, FirstPrefixPermits, NoEntryGives, OpenArcsCarry, OwnersByOwning, SetsByMember};
+ghost use Rattle.concrete_algebra.specs.Readings.{DeletesByMember, FirstCommunityPermits, FirstEntryGives, FirstPrefixPermits, NoEntryGives, OpenArcsCarry, OwnersByOwning, SetsByMember};
 
 /// In the problem of every network the ends of arcs that are up are routers, and over an arc a path grows by
 /// the sender, once and at most 10 times more, and by the receiver, at most 10 times, who was not on it.
@@ -35,12 +35,6 @@ pub fn law_of_origins()
     ensures labels { NoOriginNoLabels }
     ensures stable { NoOriginIsStable }
     ensures nothing { NothingOriginated }
-{}
-
-/// A route is better than another exactly where it is ahead: by weight, or with equal weight by preference,
-/// and so on, MED being compared where both come from one router.
-pub fn law_of_order()
-    ensures { BetterIsAhead }
 {}
 
 /// In lists and maps the first entry that matches decides, wherever it stands; and what an entry makes of

@@ -4,8 +4,10 @@
 //! routes is better, and the least router where a labelling breaks. What they make of a route that is
 //! known only in part, `abstract_maps` decides.
 //! Stands on: `net_types` alone. It takes memory for routes, and keeps nothing between calls.
-//! Promises: each answer is the one of `specs/`, for every network, and the laws of `specs/Laws.antt` say
-//! how a path grows from router to router. Not: that a stable labelling exists.
+//! Promises: each answer is the one of `specs/`, for every network. The laws of `specs/Laws.antt` and
+//! `specs/Chains.antt` say how a path grows from router to router, those of `specs/Origins.antt` what holds
+//! where nobody originates a route, and those of `specs/Readings.antt` say rules once more in other words.
+//! Not: that a stable labelling exists.
 #![tactic(auto)]
 
 mod candidates;
@@ -22,13 +24,12 @@ mod stability;
 #[cfg(test)]
 mod tests;
 
-pub use carrying::{export, import};
+pub use carrying::{export, holds_value, import, is_kept_home};
 pub use laws::{
-    law_of_chains, law_of_deletes, law_of_entries, law_of_order, law_of_origins, law_of_routes,
-    law_of_routing,
+    law_of_chains, law_of_deletes, law_of_entries, law_of_origins, law_of_routes, law_of_routing,
 };
 pub use local_routes::local_route;
-pub use maps::run_map;
+pub use maps::{map_entries, run_map};
 pub use matches::{community_entries, prefixes_match};
 pub use orders::better;
 pub use sets::{deleted_by, with_set, without_deleted};

@@ -1,19 +1,13 @@
 //! What routers originate.
 
 ghost use Rattle.std.specs.Prelude.{◌≡◌, ◌<◌, ◌^◌, IfOk, IfSome};
-ghost use Rattle.std.specs.Option.{option_copied};
-ghost use Rattle.concrete_algebra.specs.LocalRoutes.{entry_of, local_of, originated, ospf_route, owner_route};
+ghost use Rattle.concrete_algebra.specs.LocalRoutes.{local_of, originated, ospf_route, owner_route};
 
 use crate::maps::run_map;
-use net_types::{Bits64, List, Net, NoMemory, Origin, Owned, Prefix, Route, Router, Source};
+use net_types::{
+    Bits64, List, Net, NoMemory, Origin, Owned, Prefix, Route, Router, Source, entry_of,
+};
 use std::alloc::Global;
-
-// The entry of the prefix among what a router owns.
-fn entry_of<'a>(prefix: &Prefix, owned: &'a [Owned]) -> Option<&'a Owned>
-    ensures { option_copied result ≡ entry_of prefix.now owned.now }
-{
-    owned.iter().find(|entry| entry.prefix.is_same(prefix))
-}
 
 // A local route as it begins.
 fn originated(alloc: Global, origin: Origin, med: u32) -> Route

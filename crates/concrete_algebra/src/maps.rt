@@ -3,7 +3,6 @@
 ghost use Rattle.std.specs.Prelude.{◌≡◌, IfOk};
 ghost use Rattle.concrete_algebra.specs.Maps.{entries_give, entry_gives, map_entries, map_gives};
 
-use crate::copies::copy_of;
 use crate::matches::entry_matches;
 use crate::sets::under_sets;
 use net_types::{Net, NetMapEntry, NoMemory, Policy, Prefix, Route, Router};
@@ -45,8 +44,8 @@ fn entries_give(
     Ok(None)
 }
 
-// The entries of the router's map at a position.
-fn map_entries(router: &Router, position: u32) -> &[NetMapEntry]
+/// The entries of the router's map at a position, none where there is no such map.
+pub fn map_entries(router: &Router, position: u32) -> &[NetMapEntry]
     ensures { result.now ≡ map_entries router.now position }
 {
     match router.maps.as_slice().get(position as usize) {
@@ -75,7 +74,7 @@ pub fn run_map(
 {
     match policy {
         Policy::Closed => Ok(None),
-        Policy::Open => Ok(Some(copy_of(alloc, route)?)),
+        Policy::Open => Ok(Some(route.copy(alloc)?)),
         Policy::Map(position) => match net.routers().get(usize::from(router)) {
             None => Ok(None),
             Some(found) => {

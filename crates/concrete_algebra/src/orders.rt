@@ -2,9 +2,9 @@
 
 ghost use Rattle.std.specs.Prelude.{◌≡◌};
 ghost use Rattle.net_types.specs.Arcs.{sender_of};
-ghost use Rattle.net_types.specs.Better.{is_better, med_step, origin_rank, same_router, source_rank};
+ghost use Rattle.net_types.specs.Better.{is_better, med_step, same_router, source_rank};
 
-use net_types::{Arc, Net, Origin, Route, Source};
+use net_types::{Arc, Net, Route, Source};
 use std::cmp::Ordering;
 
 // Local comes before learned.
@@ -14,17 +14,6 @@ fn source_rank(source: Source) -> u8
     match source {
         Source::Local => 0,
         Source::Learned(_) => 1,
-    }
-}
-
-// IGP comes first.
-fn origin_rank(origin: Origin) -> u8
-    ensures { result ≡ origin_rank origin }
-{
-    match origin {
-        Origin::Igp => 0,
-        Origin::Egp => 1,
-        Origin::Incomplete => 2,
     }
 }
 
@@ -77,7 +66,7 @@ pub fn better(net: &Net, a: &Route, b: &Route) -> bool
     let by_preference = b.preference.cmp(&a.preference);
     let by_source = source_rank(a.source).cmp(&source_rank(b.source));
     let by_length = a.path.len().cmp(&b.path.len());
-    let by_origin = origin_rank(a.origin).cmp(&origin_rank(b.origin));
+    let by_origin = a.origin.rank().cmp(&b.origin.rank());
     by_weight
         .then(by_preference)
         .then(by_source)

@@ -8,7 +8,9 @@ use Rattle.failure_sets.specs.Places.{choose, how_many}
 
 -- the permitted sets stand in the list, and only those
 abbrev pub HoldsThePermitted : Type 0
-HoldsThePermitted = (links most : ℕ) (set : List ℕ) → IsPermitted links most set ↔ ((i : ℕ) × (slice_get (failure_sets links most) i ≡ Some set))
+HoldsThePermitted =
+    (links most : ℕ) (set : List ℕ) → IsPermitted links most set ↔
+    ((i : ℕ) × (slice_get (failure_sets links most) i ≡ Some set))
 
 -- each of them once
 abbrev pub HoldsEachOnce : Type 0
@@ -62,5 +64,6 @@ SumsOfPairsAndTriples =
 -- and so in closed form
 abbrev pub CountsInClosedForm : Type 0
 CountsInClosedForm =
-    (n : ℕ) → (length (failure_sets n 0) ≡ 1) × (length (failure_sets n 1) ≡ 1 + n) × (2 * length (failure_sets n 2) ≡ 2 + 2 * n + n * (n - 1)) ×
+    (n : ℕ) → (length (failure_sets n 0) ≡ 1) × (length (failure_sets n 1) ≡ 1 + n) ×
+    (2 * length (failure_sets n 2) ≡ 2 + 2 * n + n * (n - 1)) ×
     (6 * length (failure_sets n 3) ≡ 6 + 6 * n + 3 * (n * (n - 1)) + n * (n - 1) * (n - 2))

@@ -16,4 +16,5 @@ how_many many (suc most) = how_many many most + choose many (suc most)
 -- those whose first number is lower, and those with its first number whose rest comes before
 unfoldable pub place_among : ℕ → ℕ → List ℕ → ℕ
 place_among links least [] = 0
-place_among links least (x ∷ rest) = choose (links - least) (suc (length rest)) - choose (links - x) (suc (length rest)) + place_among links (suc x) rest
+place_among links least (x ∷ rest) = choose (links - least) (suc (length rest)) - choose (links - x) (suc (length rest)) +
+    place_among links (suc x) rest

@@ -21,7 +21,8 @@ pub record IsNext (taken : List ℕ) (number : ℕ) : Type 0 where
 -- an entry without a written number gets the next one, and is refused as a bad value where that passes 32 bits
 pub record IsNumbered (taken : List ℕ) : Type 0 where
   pub next : (n : ℕ) → number_of None taken ≡ Ok n → IsNext taken n × (n < 2 ^ 32)
-  pub refused : (refusal : LineRefusal) → number_of None taken ≡ Err refusal → (refusal ≡ BadValue) × ((n : ℕ) → IsNext taken n → 2 ^ 32 ≤ n)
+  pub refused : (refusal : LineRefusal) → number_of None taken ≡ Err refusal → (refusal ≡ BadValue) ×
+      ((n : ℕ) → IsNext taken n → 2 ^ 32 ≤ n)
 
 -- an entry of this number is added unless the number is there, which is told first, or 64 entries are
 pub record IsAdded (taken : List ℕ) (number : ℕ) : Type 0 where
@@ -48,8 +49,10 @@ IsOfRest NoMemory = ⊥
 -- a line of a list is refused for what stands behind its head
 abbrev pub ListsRefuseForTheRest : Type 0
 ListsRefuseForTheRest =
-    ((rest : List (List ℕ)) (lists : List PrefixList) (refusal : LineRefusal) → prefix_list_row rest lists ≡ Err refusal → IsOfRest refusal) ×
-    ((rest : List (List ℕ)) (lists : List CommunityList) (refusal : LineRefusal) → community_list_row rest lists ≡ Err refusal → IsOfRest refusal)
+    ((rest : List (List ℕ)) (lists : List PrefixList) (refusal : LineRefusal) → prefix_list_row rest lists ≡ Err refusal →
+    IsOfRest refusal) ×
+    ((rest : List (List ℕ)) (lists : List CommunityList) (refusal : LineRefusal) → community_list_row rest lists ≡ Err refusal →
+    IsOfRest refusal)
 
 -- the line has the head of none of the rows
 abbrev pub HasNoHead : List LineRow → List (List ℕ) → Type 0
@@ -63,7 +66,8 @@ begins_head = codes "route-map" ∷ []
 -- it has the head of a row of the block and no entry is open; and want of memory is never meant
 pub record IsRefusedMapLine (line : List (List ℕ)) (maps : List RouteMap) (current : Option MapEntry) : Type 0 where
   pub unsupported : (map_line line maps current ≡ Err Unsupported) ↔ HasNoHead map_table line
-  pub out_of_place : (map_line line maps current ≡ Err OutOfPlace) ↔ ((current ≡ None) × ((behind begins_head line ≡ None) × (HasNoHead map_table line → ⊥)))
+  pub out_of_place : (map_line line maps current ≡ Err OutOfPlace) ↔
+      ((current ≡ None) × ((behind begins_head line ≡ None) × (HasNoHead map_table line → ⊥)))
   pub memory : map_line line maps current ≡ Err NoMemory → ⊥
 
 abbrev pub EachIsRefusedMapLine : Type 0

@@ -56,7 +56,8 @@ unfoldable pub begins : List (List ℕ) → List RouteMap → Option MapEntry �
 begins rest maps current = then_answer (or_bad_value (heading_of rest)) (added_map_entry maps)
 
 -- a line of a map's block: changes the entry that is open; outside of a block there is none
-abbrev pub changes : (List (List ℕ) → MapEntry → Result MapEntry LineRefusal) → List (List ℕ) → List RouteMap → Option MapEntry → Result MapStep LineRefusal
+abbrev pub changes : (List (List ℕ) → MapEntry → Result MapEntry LineRefusal) → List (List ℕ) → List RouteMap → Option MapEntry →
+    Result MapStep LineRefusal
 changes change rest maps None = Err OutOfPlace
 changes change rest maps (Some entry) = then_answer (change rest entry) (λ e. Ok (Change e))
 
@@ -90,7 +91,8 @@ behind [] line = Some line
 behind (wanted ∷ head) [] = None
 behind (wanted ∷ head) (word ∷ line) = if same_text wanted word then behind head line else None
 
-abbrev pub by_head : LineRow → Option (List (List ℕ)) → List RouteMap → Option MapEntry → Result MapStep LineRefusal → Result MapStep LineRefusal
+abbrev pub by_head : LineRow → Option (List (List ℕ)) → List RouteMap → Option MapEntry → Result MapStep LineRefusal →
+    Result MapStep LineRefusal
 by_head r (Some rest) maps current other = r.effect rest maps current
 by_head r None maps current other = other
 

@@ -8,9 +8,10 @@ use Rattle.net_types.specs.Communities.{community_of}
 use Rattle.net_types.specs.NetFacts.{IsWord}
 use Rattle.net_types.specs.ConfigFacts.{IsSetCommunity}
 use Rattle.net_types.specs.Order.{same_text}
+use Rattle.net_types.specs.Routes.{origin_of}
 use Rattle.frr_policy.specs.declared.refusals.LineRefusal.{LineRefusal}
 use Rattle.frr_policy.specs.declared.refusals.LineRefusal.TheVariants.{BadValue, Repeated}
-use Rattle.frr_policy.specs.Values.{name_of, u32_of, origin_of, positive_of}
+use Rattle.frr_policy.specs.Values.{name_of, u32_of, positive_of}
 use Rattle.frr_policy.specs.Grammar.{first, and_then, one, leading, some_alone}
 
 -- a value that an entry takes once: the rest of the line, whether the entry has such a value, and the entry
@@ -81,7 +82,8 @@ if_delete name words = if is_only (codes "delete") words then Some name else Non
 
 -- `set comm-list` NAME `delete`
 unfoldable pub set_comm_list : List (List ℕ) → MapEntry → Result MapEntry LineRefusal
-set_comm_list rest e = once (and_then (first name_of rest) if_delete) (is_some e.sets.delete) (λ name. with_sets e (record e.sets { «delete» = Some name }))
+set_comm_list rest e = once (and_then (first name_of rest) if_delete) (is_some e.sets.delete)
+    (λ name. with_sets e (record e.sets { «delete» = Some name }))
 
 -- a line prepends at most so many AS numbers
 abbrev pub most_prepends : ℕ

@@ -91,8 +91,16 @@ prefix_numbers name lists = map (λ (e : PrefixEntry). e.seq) (prefix_entries na
 
 -- the entry of a line, with this number, and the name of its list
 abbrev pub prefix_entry : FrontValue × Matched → ℕ → List ℕ × PrefixEntry
-prefix_entry line number =
-    (line.0.name, record { seq = number; permit = line.0.permit; prefix = line.1.prefix; least = line.1.lengths.least; most = line.1.lengths.most })
+prefix_entry line number = (
+  line.0.name,
+  record {
+    seq = number;
+    permit = line.0.permit;
+    prefix = line.1.prefix;
+    least = line.1.lengths.least;
+    most = line.1.lengths.most;
+  },
+)
 
 unfoldable pub added_prefix_entry : List PrefixList → FrontValue × Matched → Result (List ℕ × PrefixEntry) LineRefusal
 added_prefix_entry lists line =

@@ -1,14 +1,12 @@
 -- The values of a line: what one of its words says.
 use Rattle.std.specs.Prelude.{ℕ, Bool, true, false, List, codes, Option, Some, None, option_map, if◌then◌else◌}
-use Rattle.net_types.specs.declared.config.Origin.{Origin}
-use Rattle.net_types.specs.declared.config.Origin.TheVariants.{Igp, Egp, Incomplete}
 use Rattle.net_types.specs.Names.{is_name}
 use Rattle.net_types.specs.Numerals.{number_in}
 use Rattle.net_types.specs.Addresses.{interface_of}
 use Rattle.net_types.specs.PrefixValue.{PrefixValue}
 use Rattle.net_types.specs.Order.{same_text}
 
--- NAME: the name of a list or a map
+-- NAME: the name of an interface, a list or a map
 abbrev pub name_of : List ℕ → Option (List ℕ)
 name_of word = if is_name word then Some word else None
 
@@ -28,12 +26,6 @@ u32_of word = number_in 0 4294967295 word
 -- NUM 1 to 65535: a sequence number of a route map
 abbrev pub map_number_of : List ℕ → Option ℕ
 map_number_of word = number_in 1 65535 word
-
--- the origin of a route
-abbrev pub origin_of : List ℕ → Option Origin
-origin_of word =
-    if same_text (codes "igp") word then Some Igp else
-    (if same_text (codes "egp") word then Some Egp else (if same_text (codes "incomplete") word then Some Incomplete else None))
 
 -- NUM 1 to 99: the number of a list, which is its name
 abbrev pub list_number_of : List ℕ → Option ℕ

@@ -5,13 +5,13 @@ ghost use Rattle.frr_policy.specs.Laws.{EachIsNumbered, EachIsAdded, ListsRefuse
 
 /// An entry without a written number gets the least multiple of 5 above all of its list; an entry is added
 /// unless its number is there, or 64 entries are.
-pub fn numbering_laws()
+pub fn law_of_numbering()
     ensures next { EachIsNumbered }
     ensures added { EachIsAdded }
 {}
 
 /// The causes of lines of lists and maps, each by itself.
-pub fn refusal_laws()
+pub fn law_of_refusals()
     ensures lists { ListsRefuseForTheRest }
     ensures maps { EachIsRefusedMapLine }
 {}

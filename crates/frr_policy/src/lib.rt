@@ -28,7 +28,7 @@ mod values;
 
 pub use blanks::Words;
 pub use community_lines::read_community_list_line;
-pub use laws::{numbering_laws, refusal_laws};
+pub use laws::{law_of_numbering, law_of_refusals};
 pub use line_words::words;
 pub use map_lines::read_map_line;
 pub use map_steps::MapStep;

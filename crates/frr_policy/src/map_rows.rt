@@ -2,7 +2,8 @@
 
 ghost use Rattle.std.specs.Prelude.{◌≡◌, ◌^◌, ◌<◌, ◌≤◌, All, IfOk, IfSome, codes, length};
 ghost use Rattle.net_types.specs.ConfigFacts.{IsSetCommunity};
-ghost use Rattle.frr_policy.specs.Values.{name_of, u32_of, origin_of, positive_of};
+ghost use Rattle.net_types.specs.Routes.{origin_of};
+ghost use Rattle.frr_policy.specs.Values.{name_of, u32_of, positive_of};
 ghost use Rattle.frr_policy.specs.Grammar.{TookIfThere, first, and_then, one, leading};
 ghost use Rattle.frr_policy.specs.Answers.{Answers};
 ghost use Rattle.frr_policy.specs.MapRows.{FitsEntry, match_prefix_list, match_community, set_preference, set_metric, set_weight, set_origin, is_only, set_community_of, replaced_or_added, is_community_set, set_community, if_delete, set_comm_list, asns_of, set_prepend};
@@ -12,8 +13,8 @@ use crate::blanks::{Words, is_word};
 use crate::community_lines::take_communities;
 use crate::copies::copy_of_entry;
 use crate::fronts::take_name;
-use crate::values::{Name, origin_of, positive_of, u32_of};
-use net_types::{List, MapEntry, Origin, SetCommunity};
+use crate::values::{Name, positive_of, u32_of};
+use net_types::{List, MapEntry, Origin, SetCommunity, read_origin};
 use std::alloc::{AllocError, Global};
 
 /// A line prepends at most so many AS numbers.
@@ -48,7 +49,7 @@ fn one_origin(words: Words<'_>) -> Option<Origin>
     ensures { result ≡ one origin_of words.entry }
 {
     let mut words = words;
-    let origin = origin_of(words.next()?)?;
+    let origin = read_origin(words.next()?)?;
     match words.next() {
         Some(_second) => None,
         None => Some(origin),

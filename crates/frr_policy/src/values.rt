@@ -1,10 +1,10 @@
 //! What one word of a line says.
 
 ghost use Rattle.std.specs.Prelude.{◌≡◌, ◌≤◌, IfOk, IfSome, option_map};
-ghost use Rattle.frr_policy.specs.Values.{name_of, action_of, positive_of, u32_of, map_number_of, origin_of, list_number_of, length_of, masked_prefix_of};
+ghost use Rattle.frr_policy.specs.Values.{name_of, action_of, positive_of, u32_of, map_number_of, list_number_of, length_of, masked_prefix_of};
 
 use crate::blanks::is_word;
-use net_types::{Origin, Prefix, Text, is_name, read_interface, read_number};
+use net_types::{Prefix, Text, is_name, read_interface, read_number};
 use std::alloc::{AllocError, Global};
 use std::marker::Model;
 
@@ -123,20 +123,5 @@ pub(crate) fn map_number_of(word: &[u8]) -> Option<u16>
     match read_number(word, 1, 65_535) {
         Some(number) => Some(number as u16),
         None => None,
-    }
-}
-
-/// The origin of a route.
-pub(crate) fn origin_of(word: &[u8]) -> Option<Origin>
-    ensures { result ≡ origin_of word.now }
-{
-    if is_word(b"igp", word) {
-        Some(Origin::Igp)
-    } else if is_word(b"egp", word) {
-        Some(Origin::Egp)
-    } else if is_word(b"incomplete", word) {
-        Some(Origin::Incomplete)
-    } else {
-        None
     }
 }

@@ -19,7 +19,8 @@ use Rattle.frr_reader.specs.declared.rows.BgpRow.TheVariants.{NoPolicy, RemoteAs
 use Rattle.frr_reader.specs.declared.rows.Direction.{Direction}
 use Rattle.frr_reader.specs.declared.rows.Direction.TheVariants.{Import, Export}
 use Rattle.frr_reader.specs.Answers.{needs, needs_before, unless_set, alone}
-use Rattle.frr_reader.specs.Values.{as_of, masked_prefix_of, one, is_nothing}
+use Rattle.frr_policy.specs.Values.{masked_prefix_of}
+use Rattle.frr_reader.specs.Values.{as_of, one, is_nothing}
 use Rattle.frr_reader.specs.Bgp.{fresh_bgp, second, address_in, place_of_neighbor, named_neighbor, no_policy_line, other_as, fresh_neighbor, with_neighbor, remote_as_line, map_and_direction, map_in, with_map, with_map_at, neighbor_map_line, bgp_network_line, map_behind, redistribution, is_redistributed, connected_line, from_ospf_line, of_neighbor_line, bgp_effect, named_map}
 use Rattle.frr_reader.proofs.EntryLemmas.{none_passes, set-pairs, All-at}
 use Rattle.frr_reader.proofs.NeedLemmas.{Whole, IsMet, IsNamedNeighbor, IsNamedBy, IsNamedBgp}

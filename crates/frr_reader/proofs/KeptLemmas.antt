@@ -37,7 +37,8 @@ use Rattle.frr_reader.specs.declared.rows.Row.{Row}
 use Rattle.frr_reader.specs.declared.rows.Row.TheVariants.{HostName, OpenInterface, OpenBgp, OpenOspf, PrefixListLine, CommunityListLine, MapLine, Address, Area, Cost, Shutdown, OspfNetwork, OfBgp, OpenFamily, Exit, End, ExitFamily, NoEffect}
 use Rattle.frr_reader.specs.Lines.{LineValue}
 use Rattle.frr_reader.specs.Table.{FoundValue, found_from}
-use Rattle.frr_reader.specs.Values.{one, host_of, name_of, as_of, interface_address_of, area_of, cost_of, network_of, is_nothing, is_unicast}
+use Rattle.frr_policy.specs.Values.{name_of}
+use Rattle.frr_reader.specs.Values.{one, host_of, as_of, interface_address_of, area_of, cost_of, network_of, is_nothing, is_unicast}
 use Rattle.frr_reader.specs.Answers.{needs_before, unless_set, alone, and_then, by_policy}
 use Rattle.frr_reader.specs.State.{State, start, IsOpen}
 use Rattle.frr_reader.specs.Entries.{put, with_entry_at}

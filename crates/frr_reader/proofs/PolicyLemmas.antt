@@ -16,12 +16,13 @@ use Rattle.net_types.specs.declared.config.CommunityList.{CommunityList}
 use Rattle.net_types.specs.declared.config.MapEntry.{MapEntry}
 use Rattle.net_types.specs.declared.config.RouteMap.{RouteMap}
 use Rattle.net_types.specs.declared.config.SetCommunity.TheVariants.{Add, Clear}
+use Rattle.net_types.specs.Routes.{origin_of}
+use Rattle.net_types.specs.Communities.{half_of, of_halves, community_of, community_of_parts}
 use Rattle.frr_policy.specs.declared.refusals.LineRefusal.{LineRefusal}
 use Rattle.frr_policy.specs.declared.refusals.LineRefusal.TheVariants.{BadValue, Repeated, OutOfLimit}
 use Rattle.frr_policy.specs.declared.map_steps.MapStep.{MapStep}
 use Rattle.frr_policy.specs.declared.map_steps.MapStep.TheVariants.{Begin, Change}
-use Rattle.frr_policy.specs.Values.{name_of, action_of, positive_of, u32_of, map_number_of, origin_of, masked_prefix_of}
-use Rattle.net_types.specs.Communities.{half_of, of_halves, community_of, community_of_parts}
+use Rattle.frr_policy.specs.Values.{name_of, action_of, positive_of, u32_of, map_number_of, masked_prefix_of}
 use Rattle.frr_policy.specs.Grammar.{first, and_then, optional, if_alone, one, value_before, leading, some_alone}
 use Rattle.frr_policy.specs.Answers.{or_bad_value, then_answer}
 use Rattle.frr_policy.specs.Lists.{FrontValue, front_of, greatest, if_word, number_of, if_free, HasRoom, new_number}

@@ -8,7 +8,8 @@ use Rattle.net_types.specs.PrefixValue.{PrefixValue, IsPrefix}
 use Rattle.net_types.specs.Masks.{masked}
 use Rattle.net_types.specs.ConfigFacts.{IsAddressed, IsCost}
 use Rattle.net_types.proofs.MaskLemmas.{masked_is_prefix}
-use Rattle.frr_reader.specs.Values.{one, as_of, cost_of, interface_address_of, with_a_length, masked_prefix_of, network_of, area_of}
+use Rattle.frr_policy.specs.Values.{masked_prefix_of}
+use Rattle.frr_reader.specs.Values.{one, as_of, cost_of, interface_address_of, with_a_length, network_of, area_of}
 
 -- what an `if` gives where it gives something
 if_given : {A : Type 0} (P : A → Type 0) (b : Bool) (x : A) → (b ≡ true → P x) → IfSome (if b then Some x else None) P

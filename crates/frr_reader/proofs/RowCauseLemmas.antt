@@ -20,7 +20,8 @@ use Rattle.frr_reader.specs.declared.rows.BgpRow.{BgpRow}
 use Rattle.frr_reader.specs.declared.rows.BgpRow.TheVariants.{NoPolicy, RemoteAs, NeighborMap, BgpNetwork, Connected, FromOspf, OfNeighbor}
 use Rattle.frr_reader.specs.declared.rows.Row.{Row}
 use Rattle.frr_reader.specs.declared.rows.Row.TheVariants.{HostName, OpenInterface, OpenBgp, OpenOspf, PrefixListLine, CommunityListLine, MapLine, Address, Area, Cost, Shutdown, OspfNetwork, OfBgp, OpenFamily, Exit, End, ExitFamily, NoEffect}
-use Rattle.frr_reader.specs.Values.{one, host_of, name_of, as_of, interface_address_of, area_of, cost_of, network_of, masked_prefix_of, is_nothing, is_unicast}
+use Rattle.frr_policy.specs.Values.{name_of, masked_prefix_of}
+use Rattle.frr_reader.specs.Values.{one, host_of, as_of, interface_address_of, area_of, cost_of, network_of, is_nothing, is_unicast}
 use Rattle.frr_reader.specs.Answers.{needs, needs_before, unless_set, alone, and_then, by_policy}
 use Rattle.frr_reader.specs.State.{State}
 use Rattle.frr_reader.specs.Bgp.{address_in, named_neighbor, other_as, place_of_neighbor, map_and_direction, map_in, with_map_at, redistribution, is_redistributed, no_policy_line, remote_as_line, neighbor_map_line, bgp_network_line, connected_line, from_ospf_line, of_neighbor_line, bgp_effect}

@@ -13,7 +13,8 @@ use Rattle.net_types.specs.declared.config.MapEntry.{MapEntry}
 use Rattle.net_types.specs.declared.config.RouteMap.{RouteMap}
 use Rattle.frr_reader.specs.declared.causes.Cause.{Cause}
 use Rattle.frr_reader.specs.declared.modes.Mode.TheVariants.{InInterface}
-use Rattle.frr_reader.specs.Values.{name_of, one}
+use Rattle.frr_policy.specs.Values.{name_of}
+use Rattle.frr_reader.specs.Values.{one}
 use Rattle.frr_reader.specs.Answers.{needs}
 use Rattle.frr_reader.specs.State.{State}
 use Rattle.frr_reader.specs.Entries.{place_for, entries_at, entry_at, with_entry_at}

@@ -33,7 +33,7 @@ and_then (Ok value) next = next value
 and_then (Err cause) next = Err cause
 
 -- the cause by a refusal of a line of a list or a map; want of memory is never meant there, by
--- `refusal_laws` of `frr_policy`
+-- `law_of_refusals` of `frr_policy`
 abbrev pub cause_of : PolicyRefusal → Cause
 cause_of PolicyUnsupported = Unsupported
 cause_of PolicyOutOfPlace = OutOfPlace

@@ -13,7 +13,8 @@ use Rattle.frr_reader.specs.declared.rows.BgpRow.{BgpRow}
 use Rattle.frr_reader.specs.declared.rows.BgpRow.TheVariants.{NoPolicy, RemoteAs, NeighborMap, BgpNetwork, Connected, FromOspf, OfNeighbor}
 use Rattle.frr_reader.specs.declared.rows.Direction.{Direction}
 use Rattle.frr_reader.specs.declared.rows.Direction.TheVariants.{Import, Export}
-use Rattle.frr_reader.specs.Values.{name_of, as_of, masked_prefix_of, one, two, is_nothing}
+use Rattle.frr_policy.specs.Values.{name_of, masked_prefix_of}
+use Rattle.frr_reader.specs.Values.{as_of, one, two, is_nothing}
 use Rattle.frr_reader.specs.Answers.{needs, needs_before, unless_set, alone}
 
 -- `router bgp` AS: BGP of which nothing else is known

@@ -23,7 +23,8 @@ use Rattle.frr_reader.specs.State.{State}
 use Rattle.frr_reader.specs.Entries.{with_prefix_entry, with_community_entry, with_map_entry, place_of_map, place_of_entry, entry_at, with_entry_at}
 use Rattle.frr_reader.specs.Needs.{noted, noted_change}
 use Rattle.frr_reader.specs.Bgp.{fresh_bgp, bgp_effect, named_map}
-use Rattle.frr_reader.specs.Values.{host_of, name_of, as_of, area_of, cost_of, interface_address_of, network_of, one, is_nothing, is_unicast}
+use Rattle.frr_policy.specs.Values.{name_of}
+use Rattle.frr_reader.specs.Values.{host_of, as_of, area_of, cost_of, interface_address_of, network_of, one, is_nothing, is_unicast}
 
 -- what is done with the interface that is open; there is one in its mode
 abbrev pub on_open : State → (Interface → Result State Cause) → Result State Cause
@@ -59,7 +60,8 @@ interface_line rest s = needs (one name_of rest) (λ name. Ok (record s {
 
 -- `ip address` IFP, of a length from 1
 unfoldable pub address_line : List (List ℕ) → State → Result State Cause
-address_line rest s = needs (one interface_address_of rest) (λ address. on_open s (λ i. unless_set (is_some i.address) (with_open s (record i { address = Some address }))))
+address_line rest s = needs (one interface_address_of rest)
+    (λ address. on_open s (λ i. unless_set (is_some i.address) (with_open s (record i { address = Some address }))))
 
 -- `ip ospf area 0`: the interface runs OSPF
 unfoldable pub area_line : List (List ℕ) → State → Result State Cause
@@ -118,7 +120,8 @@ prefix_list_line rest s =
 -- `bgp community-list`, `ip community-list`: adds an entry
 unfoldable pub community_list_line : List (List ℕ) → State → Result State Cause
 community_list_line rest s =
-    and_then (by_policy (community_list_row rest s.community_lists)) (λ r. Ok (record s { community_lists = with_community_entry r.0 r.1 s.community_lists }))
+    and_then (by_policy (community_list_row rest s.community_lists))
+    (λ r. Ok (record s { community_lists = with_community_entry r.0 r.1 s.community_lists }))
 
 -- the entry whose block is open, or was last
 abbrev pub open_entry : State → Option MapEntry

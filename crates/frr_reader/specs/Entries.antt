@@ -27,17 +27,20 @@ on_first test change new (x ∷ xs) = cond (test x) (change x ∷ xs) (x ∷ on_
 -- the prefix lists with one entry more
 abbrev pub with_prefix_entry : List ℕ → PrefixEntry → List PrefixList → List PrefixList
 with_prefix_entry name entry lists =
-    on_first (λ (l : PrefixList). same_text l.name name) (λ l. record l { entries = put (λ (e : PrefixEntry). e.seq) entry l.entries }) (record { name = name; entries = entry ∷ [] }) lists
+    on_first (λ (l : PrefixList). same_text l.name name)
+    (λ l. record l { entries = put (λ (e : PrefixEntry). e.seq) entry l.entries }) (record { name = name; entries = entry ∷ [] }) lists
 
 -- the community lists with one entry more
 abbrev pub with_community_entry : List ℕ → CommunityEntry → List CommunityList → List CommunityList
 with_community_entry name entry lists =
-    on_first (λ (l : CommunityList). same_text l.name name) (λ l. record l { entries = put (λ (e : CommunityEntry). e.seq) entry l.entries }) (record { name = name; entries = entry ∷ [] }) lists
+    on_first (λ (l : CommunityList). same_text l.name name)
+    (λ l. record l { entries = put (λ (e : CommunityEntry). e.seq) entry l.entries }) (record { name = name; entries = entry ∷ [] }) lists
 
 -- the route maps with one entry more
 abbrev pub with_map_entry : List ℕ → MapEntry → List RouteMap → List RouteMap
 with_map_entry name entry maps =
-    on_first (λ (m : RouteMap). same_text m.name name) (λ m. record m { entries = put (λ (e : MapEntry). e.seq) entry m.entries }) (record { name = name; entries = entry ∷ [] }) maps
+    on_first (λ (m : RouteMap). same_text m.name name)
+    (λ m. record m { entries = put (λ (e : MapEntry). e.seq) entry m.entries }) (record { name = name; entries = entry ∷ [] }) maps
 
 -- the place of the map of this name, or how many there are
 abbrev pub place_of_map : List ℕ → List RouteMap → ℕ

@@ -77,7 +77,8 @@ pub record IsReadOnce (text : List ℕ) : Type 0 where
   pub apart : (config : RouterConfig) (refusal : ReadRefusal) → IsConf text config → IsRef text refusal → ⊥
   pub same_conf : (a b : RouterConfig) → IsConf text a → IsConf text b → a ≡ b
   pub same_ref : (a b : ReadRefusal) → IsRef text a → IsRef text b → a ≡ b
-  pub «open» : (before behind : List LineValue) (state : State) → lines text ≡ before ++ behind → after start before ≡ Some state → IsOpen state
+  pub «open» : (before behind : List LineValue) (state : State) → lines text ≡ before ++ behind →
+      after start before ≡ Some state → IsOpen state
   pub no_memory : IsRef text NoMemory → ⊥
   pub undefined : (line : ℕ) → IsRef text (Undefined line) → IsLeastWrong text is_undefined line
   pub foreign_as : (line : ℕ) → IsRef text (ForeignAs line) → IsLeastWrong text is_foreign line

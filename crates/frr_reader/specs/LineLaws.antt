@@ -23,7 +23,9 @@ pub record IsPlaced (text : List ℕ) (before behind : List LineValue) (line : L
   pub last : behind ≡ [] → line.reach ≡ length text
 
 abbrev pub EachLineIsPlaced : Type 0
-EachLineIsPlaced = (text : List ℕ) (before behind : List LineValue) (line : LineValue) → lines text ≡ before ++ line ∷ behind → IsPlaced text before behind line
+EachLineIsPlaced =
+    (text : List ℕ) (before behind : List LineValue) (line : LineValue) → lines text ≡ before ++ line ∷ behind →
+    IsPlaced text before behind line
 
 -- the row stands in the mode, and the line has its head
 abbrev pub TakesIn : List (List ℕ) → Mode → FormValue → Type 0
@@ -45,7 +47,9 @@ pub record IsInnermost (now : Mode) (line : List (List ℕ)) (found : FoundValue
   pub row : form.row ≡ found.row
 
 abbrev pub EachIsTakenInnermost : Type 0
-EachIsTakenInnermost = (now : Mode) (line : List (List ℕ)) (found : FoundValue) → found_from now line ≡ Ok found → IsInnermost now line found
+EachIsTakenInnermost =
+    (now : Mode) (line : List (List ℕ)) (found : FoundValue) → found_from now line ≡ Ok found →
+    IsInnermost now line found
 
 -- a line without control bytes that is not too long
 pub record IsReadable (line : LineValue) : Type 0 where
@@ -76,10 +80,16 @@ IsDisplaced now bgp line = All (NoneTakesIn line) (modes_from now) ⊎ NamesNoNe
 pub record IsLineLaw (s : State) (line : LineValue) : Type 0 where
   pub not_text : (step s line ≡ Err NotText) ↔ (list_any is_control line.text ≡ true)
   pub too_long : (step s line ≡ Err LineTooLong) ↔ ((list_any is_control line.text ≡ false) × (512 < length line.text))
-  pub unsupported : (step s line ≡ Err Unsupported) ↔ (IsReadable line × (IsStatement (words line.text) × (is_known (words line.text) ≡ false)))
-  pub out_of_place : IsOpen s → (step s line ≡ Err OutOfPlace) ↔ (IsReadable line × (IsStatement (words line.text) × ((is_known (words line.text) ≡ true) × IsDisplaced s.mode s.bgp (words line.text))))
-  pub idle : IsReadable line → (IsStatement (words line.text) → ⊥) → line.reach ≤ 262144 → step s line ≡ Ok (record s { number = line.number })
-  pub no_effect : (found : FoundValue) → IsReadable line → IsStatement (words line.text) → found_from s.mode (words line.text) ≡ Ok found → found.row ≡ NoEffect → line.reach ≤ 262144 → step s line ≡ Ok (record s { number = line.number; mode = found.mode })
+  pub unsupported : (step s line ≡ Err Unsupported) ↔
+      (IsReadable line × (IsStatement (words line.text) × (is_known (words line.text) ≡ false)))
+  pub out_of_place : IsOpen s → (step s line ≡ Err OutOfPlace) ↔
+      (IsReadable line × (IsStatement (words line.text) ×
+      ((is_known (words line.text) ≡ true) × IsDisplaced s.mode s.bgp (words line.text))))
+  pub idle : IsReadable line → (IsStatement (words line.text) → ⊥) → line.reach ≤ 262144 →
+      step s line ≡ Ok (record s { number = line.number })
+  pub no_effect : (found : FoundValue) → IsReadable line → IsStatement (words line.text) →
+      found_from s.mode (words line.text) ≡ Ok found → found.row ≡ NoEffect → line.reach ≤ 262144 →
+      step s line ≡ Ok (record s { number = line.number; mode = found.mode })
   pub too_far : (t : State) → IsReadable line → words_at s line ≡ Ok t → (step s line ≡ Err OutOfLimit) ↔ (262144 < line.reach)
   pub size_last : (cause : Cause) → IsReadable line → words_at s line ≡ Err cause → step s line ≡ Err cause
 

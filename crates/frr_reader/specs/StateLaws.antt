@@ -6,7 +6,8 @@ use Rattle.net_types.specs.declared.config.Interface.{Interface}
 use Rattle.net_types.specs.declared.config.PrefixEntry.{PrefixEntry}
 use Rattle.net_types.specs.declared.config.CommunityEntry.{CommunityEntry}
 use Rattle.net_types.specs.declared.config.MapEntry.{MapEntry}
-use Rattle.frr_reader.specs.Values.{name_of, one}
+use Rattle.frr_policy.specs.Values.{name_of}
+use Rattle.frr_reader.specs.Values.{one}
 use Rattle.frr_reader.specs.State.{State}
 use Rattle.frr_reader.specs.Entries.{put, entries_at, entry_at}
 use Rattle.frr_reader.specs.Effects.{with_open, interface_line, open_entry, with_begun, with_changed}
@@ -17,7 +18,9 @@ pub record OpensInterface (name : List ℕ) (s t : State) : Type 0 where
   pub kept : (place : ℕ) (i : Interface) → slice_get s.interfaces place ≡ Some i → slice_get t.interfaces place ≡ Some i
 
 abbrev pub OpensTheNamedInterface : Type 0
-OpensTheNamedInterface = (rest : List (List ℕ)) (name : List ℕ) (s t : State) → one name_of rest ≡ Some name → interface_line rest s ≡ Ok t → OpensInterface name s t
+OpensTheNamedInterface =
+    (rest : List (List ℕ)) (name : List ℕ) (s t : State) → one name_of rest ≡ Some name →
+    interface_line rest s ≡ Ok t → OpensInterface name s t
 
 -- the open interface is now this, and each other is as it was
 pub record ChangesInterface (new : Interface) (s : State) : Type 0 where

@@ -1,18 +1,15 @@
 -- The values of a line: what its words behind the row's head say.
-use Rattle.std.specs.Prelude.{ℕ, Bool, true, false, ◌||◌, ◌&&◌, nat_le, List, [], ◌∷◌, codes, Option, Some, None, option_and_then, option_map, if◌then◌else◌}
-use Rattle.net_types.specs.Names.{is_host, is_name}
+use Rattle.std.specs.Prelude.{ℕ, Bool, true, false, ◌||◌, ◌&&◌, nat_le, List, [], ◌∷◌, codes, Option, Some, None, option_and_then, if◌then◌else◌}
+use Rattle.net_types.specs.Names.{is_host}
 use Rattle.net_types.specs.Numerals.{number_in}
 use Rattle.net_types.specs.Addresses.{interface_of}
 use Rattle.net_types.specs.PrefixValue.{PrefixValue}
 use Rattle.net_types.specs.Order.{same_text}
+use Rattle.frr_policy.specs.Values.{masked_prefix_of, positive_of}
 
 -- HOST: the name of a host
 abbrev pub host_of : List ℕ → Option (List ℕ)
 host_of word = if is_host word then Some word else None
-
--- NAME: the name of an interface or a map
-abbrev pub name_of : List ℕ → Option (List ℕ)
-name_of word = if is_name word then Some word else None
 
 -- the backbone area, which is the only one: `0` or `0.0.0.0`
 abbrev pub area_of : List ℕ → Option ℕ
@@ -20,7 +17,7 @@ area_of word = if same_text (codes "0") word || same_text (codes "0.0.0.0") word
 
 -- AS: a number from 1 to 4294967295
 abbrev pub as_of : List ℕ → Option ℕ
-as_of word = number_in 1 4294967295 word
+as_of word = positive_of word
 
 -- an OSPF cost: a number from 1 to 65535
 abbrev pub cost_of : List ℕ → Option ℕ
@@ -32,10 +29,6 @@ with_a_length a = if nat_le 1 a.1.len then Some a else None
 -- an interface's address with a length from 1 to 32, and its subnet
 abbrev pub interface_address_of : List ℕ → Option (ℕ × PrefixValue)
 interface_address_of word = option_and_then with_a_length (interface_of word)
-
--- PFX: an address with a length from 0 to 32; its bits past the length are cleared
-abbrev pub masked_prefix_of : List ℕ → Option PrefixValue
-masked_prefix_of word = option_map (λ a. a.1) (interface_of word)
 
 -- a rest without words
 abbrev pub is_nothing : List (List ℕ) → Bool

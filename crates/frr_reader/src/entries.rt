@@ -4,10 +4,10 @@ ghost use Rattle.std.specs.Prelude.{◌≡◌, ◌≤◌, ◌∷◌, [], List as
 ghost use Rattle.std.specs.Option.{option_copied};
 ghost use Rattle.std.specs.List.{position_or_len};
 ghost use Rattle.net_types.specs.Order.{same_text};
-ghost use Rattle.frr_reader.specs.Entries.{place_for, put, with_prefix_entry, with_community_entry, with_map_entry, entries_at, entry_at, with_entry_at};
 ghost use Rattle.net_types.specs.declared.config.PrefixEntry.{PrefixEntry as PrefixEntryValue};
 ghost use Rattle.net_types.specs.declared.config.CommunityEntry.{CommunityEntry as CommunityEntryValue};
 ghost use Rattle.net_types.specs.declared.config.MapEntry.{MapEntry as MapEntryValue};
+ghost use Rattle.frr_reader.specs.Entries.{place_for, put, with_prefix_entry, with_community_entry, with_map_entry, entries_at, entry_at, with_entry_at};
 
 use crate::values::is_same;
 use net_types::{

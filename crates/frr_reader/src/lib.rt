@@ -23,8 +23,8 @@ mod state;
 mod table;
 mod values;
 
-pub use laws::{line_laws, state_laws};
-pub use reading::{read_router, reading_law};
+pub use laws::{law_of_lines, law_of_reading, law_of_states};
+pub use reading::read_router;
 
 #[cfg(test)]
 mod tests;

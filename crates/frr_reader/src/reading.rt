@@ -4,7 +4,6 @@ ghost use Rattle.std.specs.Prelude.{◌≡◌, IfOk};
 ghost use Rattle.std.specs.List.{list_any};
 ghost use Rattle.net_types.specs.ConfigFacts.{IsConfig};
 ghost use Rattle.frr_reader.specs.Answers.{Takes};
-ghost use Rattle.frr_reader.specs.FirstRefusal.{IsReadOnce};
 ghost use Rattle.frr_reader.specs.Reading.{is_control, begins_comment, by_words, step, refusal_of, reading, config_of, Answers};
 
 use crate::causes::{Cause, LineRefusal};
@@ -32,12 +31,6 @@ pub fn read_router(alloc: Global, text: &[u8]) -> Result<RouterConfig, ReadRefus
 {
     read_text(alloc, text)
 }
-
-/// Each file has a configuration or a refusal, never both, and only one: the refusal of its first refused
-/// line, or what is missing after the last one. The call does nothing; its contract is this law.
-pub fn reading_law(_text: &[u8])
-    ensures { IsReadOnce _text.now }
-{}
 
 #[tactic(auto, unfolding(crate::specs::Reading::reading))]
 fn read_text(alloc: Global, text: &[u8]) -> Result<RouterConfig, ReadRefusal>

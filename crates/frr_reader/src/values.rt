@@ -2,7 +2,8 @@
 
 ghost use Rattle.std.specs.Prelude.{◌≡◌, ◌<◌, IfOk, IfSome, MatchOption, All, Some, None};
 ghost use Rattle.net_types.specs.Order.{same_text};
-ghost use Rattle.frr_reader.specs.Values.{is_nothing, host_of, name_of, as_of, area_of, cost_of, interface_address_of, masked_prefix_of, only, one, network_of, two, is_unicast};
+ghost use Rattle.frr_policy.specs.Values.{name_of, masked_prefix_of};
+ghost use Rattle.frr_reader.specs.Values.{is_nothing, host_of, as_of, area_of, cost_of, interface_address_of, only, one, network_of, two, is_unicast};
 
 use frr_policy::Words;
 use net_types::{Prefix, Text, is_host, is_name, read_interface, read_number};

@@ -51,7 +51,7 @@ pub triangle_is : (a b c : Router) → a.host ≡ 97 ∷ [] → b.host ≡ 98 �
 triangle_is a b c ha hb hc sa sb va vb vc = record {
   few_routers = lit≤ tt;
   hosts = each_pair (λ (x y : Router). text_before x.host y.host ≡ true) a b c (before a b (97 ∷ []) (98 ∷ []) ha hb refl) (before a c (97 ∷ []) (100 ∷ []) ha hc refl) (before b c (98 ∷ []) (100 ∷ []) hb hc refl);
-  systems = each_pair (λ (x y : Router). AreApart x.asn y.asn) a b c (apart a b sa) (apart a c sa) (apart b c sb);
+  asns = each_pair (λ (x y : Router). AreApart x.asn y.asn) a b c (apart a b sa) (apart a c sa) (apart b c sb);
   routers = all_three (IsRouter 2) a b c va vb vc;
   few_links = lit≤ tt;
   subnets = each_pair (λ (x y : Link). prefix_before x.subnet y.subnet ≡ true) (side 167772160 0 1) (side 167772416 0 2) (side 167772672 1 2) refl refl refl;

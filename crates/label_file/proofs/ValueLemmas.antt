@@ -7,17 +7,18 @@ use Rattle.std.proofs.lemmas.Nat.{or_lt}
 use Rattle.std.proofs.lemmas.Nat.Bits.{bit_at-pow_other, bit_at-zero}
 use Rattle.std.specs.List.{position, position_or_len}
 use Rattle.toml.specs.Data.{Data, Items, Members, as_str}
+use Rattle.net_types.specs.Numbering.{community_number, router_number}
 use Rattle.net_types.specs.declared.network.Router.{Router}
 use Rattle.net_types.specs.NetValue.{NetValue}
 use Rattle.net_types.specs.NetFacts.{IsMask}
 use Rattle.net_types.specs.Order.{same_text}
 use Rattle.net_types.specs.Sets.{has}
 use Rattle.net_types.proofs.SetLemmas.{has_union, bit_from}
+use Rattle.net_types.specs.Communities.{community_of}
 use Rattle.toml_fields.specs.Fields.{within, integer_at, text_at, array_at}
 use Rattle.toml_fields.specs.Tables.{each_of}
-use Rattle.net_types.specs.Communities.{community_of}
-use Rattle.label_file.specs.Communities.{place_of, community_in, with_number, set_of}
-use Rattle.label_file.specs.Values.{router_of, router_at, word_at, hop_of, if_short, path_in, path_at, member_of, communities_in, communities_at}
+use Rattle.label_file.specs.Communities.{community_in, with_number, set_of}
+use Rattle.label_file.specs.Values.{router_at, word_at, hop_of, if_short, path_in, path_at, member_of, communities_in, communities_at}
 use Rattle.label_file.proofs.OptionLemmas.{IfSome-test, IfSome-and_then, IfSome-behind, IfSome-map, IfSome-each_of}
 
 -- a position is inside the list
@@ -37,11 +38,11 @@ IfSome-word_at key fields = IfSome-behind (λ n. n < 2 ^ 32) (within 0 429496729
   fits (Some n) h = omega arith
   fits None h = tt
 
-pub IfSome-router_of : (net : NetValue) (host : List ℕ) → IfSome (router_of net host) (λ u. u < length net.routers)
-IfSome-router_of net host = IfSome-position (λ (router : Router). same_text router.host host) net.routers
+pub IfSome-router_number : (net : NetValue) (host : List ℕ) → IfSome (router_number net host) (λ u. u < length net.routers)
+IfSome-router_number net host = IfSome-position (λ (router : Router). same_text router.host host) net.routers
 
 pub IfSome-router_at : (net : NetValue) (key : List ℕ) (fields : Members) → IfSome (router_at net key fields) (λ u. u < length net.routers)
-IfSome-router_at net key fields = IfSome-behind (λ u. u < length net.routers) (router_of net) (text_at key fields) (IfSome-router_of net)
+IfSome-router_at net key fields = IfSome-behind (λ u. u < length net.routers) (router_number net) (text_at key fields) (IfSome-router_number net)
 
 -- a path of the network
 pub record IsPath (net : NetValue) (path : List ℕ) : Type 0 where
@@ -60,7 +61,7 @@ short_path net path all = go (nat_lt 1344 (length path)) refl where
 pub IfSome-path_at : (net : NetValue) (key : List ℕ) (fields : Members) → IfSome (path_at net key fields) (IsPath net)
 IfSome-path_at net key fields = IfSome-behind (IsPath net) (path_in net) (array_at key fields) in_items where
   hop : (value : Data) → IfSome (hop_of net value) (λ hop. hop < length net.routers)
-  hop value = IfSome-behind (λ hop. hop < length net.routers) (router_of net) (as_str value) (IfSome-router_of net)
+  hop value = IfSome-behind (λ hop. hop < length net.routers) (router_number net) (as_str value) (IfSome-router_number net)
 
   in_items : (items : Items) → IfSome (path_in net items) (IsPath net)
   in_items items =
@@ -98,7 +99,7 @@ no_member count = record { word = omega arith; named = λ x h. let z = bit_at-ze
 pub IfSome-communities_at : (net : NetValue) (key : List ℕ) (fields : Members) → length net.communities ≤ 64 → IfSome (communities_at net key fields) (IsMask (length net.communities))
 IfSome-communities_at net key fields few = IfSome-behind (IsMask (length net.communities)) (communities_in net) (array_at key fields) in_items where
   place : (text : List ℕ) → IfSome (community_in net text) (λ c. c < length net.communities)
-  place text = IfSome-behind (λ c. c < length net.communities) (place_of net) (community_of text) (λ value. IfSome-position (λ known. nat_eq known value) net.communities)
+  place text = IfSome-behind (λ c. c < length net.communities) (community_number net) (community_of text) (λ value. IfSome-position (λ known. nat_eq known value) net.communities)
 
   member : (value : Data) → IfSome (member_of net value) (λ c. c < length net.communities)
   member value = IfSome-behind (λ c. c < length net.communities) (community_in net) (as_str value) place

@@ -55,7 +55,11 @@ labelling routers labels = map (held labels) (range_with_len 0 routers)
 -- no two labels are of one router; else the place of the later is named
 abbrev pub unless_repeated : NetValue → PrefixValue → Seq ℕ → Seq Label → Option ℕ → Result Labels FormRefusal
 unless_repeated net prefix failed labels (Some place) = Err (SameName place)
-unless_repeated net prefix failed labels None = Ok (record { prefix = prefix; failed = failed; labels = labelling (length net.routers) labels })
+unless_repeated net prefix failed labels None = Ok (record {
+  prefix = prefix;
+  failed = failed;
+  labels = labelling (length net.routers) labels;
+})
 
 abbrev pub with_labels : NetValue → PrefixValue → Seq ℕ → Seq Label → Result Labels FormRefusal
 with_labels net prefix failed labels = unless_repeated net prefix failed labels (first_repeat is_same_router 1 [] labels)

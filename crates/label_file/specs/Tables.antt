@@ -24,7 +24,15 @@ keys_of (Learned arc) = codes "link" ∷ local_keys
 -- the route of the fields, where each is there, of the right kind and in range
 abbrev pub route_of : Option Source → Option ℕ → Option ℕ → Option (Seq ℕ) → Option Origin → Option ℕ → Option ℕ → Option Route
 route_of (Some source) (Some weight) (Some preference) (Some path) (Some origin) (Some med) (Some communities) =
-    Some (record { weight = weight; preference = preference; path = path; origin = origin; med = med; communities = communities; source = source })
+    Some (record {
+      weight = weight;
+      preference = preference;
+      path = path;
+      origin = origin;
+      med = med;
+      communities = communities;
+      source = source;
+    })
 route_of _ _ _ _ _ _ _ = None
 
 unfoldable pub route_at : NetValue → ℕ → Members → Option Route

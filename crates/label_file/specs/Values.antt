@@ -1,27 +1,18 @@
 -- The values of a label's table, beside its source: what stands at a key, where it is of the right kind and
 -- in range for this network.
-use Rattle.std.specs.Prelude.{ℕ, nat_lt, List as Seq, length, codes, Option, Some, None, option_map, option_and_then, if◌then◌else◌}
-use Rattle.std.specs.List.{position}
+use Rattle.std.specs.Prelude.{ℕ, nat_lt, List as Seq, length, Option, Some, None, option_map, option_and_then, if◌then◌else◌}
 use Rattle.toml.specs.Data.{Data, Items, Members, as_str}
-use Rattle.net_types.specs.declared.network.Router.{Router}
 use Rattle.net_types.specs.declared.config.Origin.{Origin}
-use Rattle.net_types.specs.declared.config.Origin.TheVariants.{Igp, Egp, Incomplete}
 use Rattle.net_types.specs.NetValue.{NetValue}
-use Rattle.net_types.specs.Order.{same_text}
+use Rattle.net_types.specs.Numbering.{router_number}
+use Rattle.net_types.specs.Routes.{origin_of}
 use Rattle.toml_fields.specs.Fields.{text_at, number_at, array_at}
 use Rattle.toml_fields.specs.Tables.{each_of}
 use Rattle.label_file.specs.Communities.{community_in, set_of}
 
--- the number of the router with this host
-abbrev pub place_of_host : Seq ℕ → Seq Router → Option ℕ
-place_of_host host routers = position (λ (router : Router). same_text router.host host) routers
-
-abbrev pub router_of : NetValue → Seq ℕ → Option ℕ
-router_of net host = place_of_host host net.routers
-
 -- the router whose host stands at a key
 abbrev pub router_at : NetValue → Seq ℕ → Members → Option ℕ
-router_at net key fields = option_and_then (router_of net) (text_at key fields)
+router_at net key fields = option_and_then (router_number net) (text_at key fields)
 
 -- a number of 32 bits at a key
 abbrev pub word_at : Seq ℕ → Members → Option ℕ
@@ -29,7 +20,7 @@ word_at key fields = number_at 0 4294967295 key fields
 
 -- the AS path: hosts of the network, at most 1,344
 abbrev pub hop_of : NetValue → Data → Option ℕ
-hop_of net value = option_and_then (router_of net) (as_str value)
+hop_of net value = option_and_then (router_number net) (as_str value)
 
 abbrev pub if_short : Seq ℕ → Option (Seq ℕ)
 if_short path = if nat_lt 1344 (length path) then None else Some path
@@ -41,12 +32,6 @@ abbrev pub path_at : NetValue → Seq ℕ → Members → Option (Seq ℕ)
 path_at net key fields = option_and_then (path_in net) (array_at key fields)
 
 -- the origin
-abbrev pub origin_of : Seq ℕ → Option Origin
-origin_of word =
-    if same_text word (codes "igp") then Some Igp else
-    if same_text word (codes "egp") then Some Egp else
-    if same_text word (codes "incomplete") then Some Incomplete else None
-
 abbrev pub origin_at : Seq ℕ → Members → Option Origin
 origin_at key fields = option_and_then origin_of (text_at key fields)
 

@@ -16,27 +16,12 @@ use std::alloc::Global;
 use toml::{Table, Value};
 use toml_fields::{document, has_only, prefix_at, tables_at};
 
-// A route with the same attributes.
-fn copy_of(alloc: Global, route: &Route) -> Result<Route, NoMemory>
-    ensures { IfOk result (λ copy. copy ≡ route.now) }
-{
-    Ok(Route {
-        weight: route.weight,
-        preference: route.preference,
-        path: List::from_slice(alloc, route.path.as_slice())?,
-        origin: route.origin,
-        med: route.med,
-        communities: route.communities,
-        source: route.source,
-    })
-}
-
 // What the router holds.
 fn held(alloc: Global, labels: &[Label], router: u8) -> Result<Option<Route>, NoMemory>
     ensures { IfOk result (λ route. route ≡ held labels.now router) }
 {
     match labels.iter().find(|label| label.router == router) {
-        Some(label) => Ok(Some(copy_of(alloc, &label.route)?)),
+        Some(label) => Ok(Some(label.route.copy(alloc)?)),
         None => Ok(None),
     }
 }

@@ -19,7 +19,7 @@ use std::test::Fail;
 // A router that owns nothing, in a network of two communities.
 fn router(alloc: Global, host: &str) -> Result<Router, NoMemory>
     ensures host { IfOk result (λ router. router.host ≡ host.now) }
-    ensures system { IfOk result (λ router. router.asn ≡ None) }
+    ensures asn { IfOk result (λ router. router.asn ≡ None) }
     ensures valid { IfOk result (IsRouter 2) }
 {
     Ok(Router {

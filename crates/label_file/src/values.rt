@@ -3,10 +3,10 @@
 ghost use Rattle.std.specs.Prelude.{◌≡◌, ◌<◌, IfOk, IfSome, option_map};
 ghost use Rattle.toml.specs.View.{table_view, array_view, view};
 ghost use Rattle.toml_fields.specs.Tables.{each_of};
-ghost use Rattle.label_file.specs.Values.{place_of_host, router_of, router_at, word_at, hop_of, if_short, path_in, path_at, origin_of, origin_at, member_of, communities_in, communities_at};
+ghost use Rattle.label_file.specs.Values.{router_at, word_at, hop_of, if_short, path_in, path_at, origin_at, member_of, communities_in, communities_at};
 
 use crate::communities::community_in;
-use net_types::{Bits64, List, Net, NoMemory, Origin, Router};
+use net_types::{Bits64, List, Net, NoMemory, Origin, read_origin};
 use std::alloc::Global;
 use toml::value::Array;
 use toml::{Table, Value};
@@ -15,31 +15,12 @@ use toml_fields::{array_at, number_at, text_at};
 /// The most routers that a path may have.
 const MOST_HOPS: usize = 1344;
 
-fn place_of_host(routers: &[Router], host: &[u8]) -> Option<usize>
-    ensures { result ≡ place_of_host host.now routers.now }
-{
-    routers
-        .iter()
-        .position(|router| router.host.as_bytes() == host)
-}
-
-// The number of the router with this host.
-fn router_of(net: &Net, host: &str) -> Option<u8>
-    ensures { result ≡ router_of net.now host.now }
-{
-    net.valid();
-    match place_of_host(net.routers(), host.as_bytes()) {
-        Some(number) => Some(number as u8),
-        None => None,
-    }
-}
-
 /// The router whose host stands at a key.
 pub(crate) fn router_at(net: &Net, table: &Table, key: &str) -> Option<u8>
     ensures { result ≡ router_at net.now key.now (table_view table.now) }
 {
     match text_at(table, key) {
-        Some(host) => router_of(net, host),
+        Some(host) => net.router_number(host.as_bytes()),
         None => None,
     }
 }
@@ -58,7 +39,7 @@ fn hop_of(net: &Net, value: &Value) -> Option<u8>
     ensures { result ≡ hop_of net.now (view value.now) }
 {
     match value.as_str() {
-        Some(host) => router_of(net, host),
+        Some(host) => net.router_number(host.as_bytes()),
         None => None,
     }
 }
@@ -111,32 +92,18 @@ pub(crate) fn path_at(
     }
 }
 
-fn origin_of(word: &str) -> Option<Origin>
-    ensures { result ≡ origin_of word.now }
-{
-    if word == "igp" {
-        Some(Origin::Igp)
-    } else if word == "egp" {
-        Some(Origin::Egp)
-    } else if word == "incomplete" {
-        Some(Origin::Incomplete)
-    } else {
-        None
-    }
-}
-
 /// The origin at a key: `igp`, `egp` or `incomplete`.
 pub(crate) fn origin_at(table: &Table, key: &str) -> Option<Origin>
     ensures { result ≡ origin_at key.now (table_view table.now) }
 {
     match text_at(table, key) {
-        Some(word) => origin_of(word),
+        Some(word) => read_origin(word.as_bytes()),
         None => None,
     }
 }
 
 fn member_of(net: &Net, value: &Value) -> Option<u8>
-    ensures place { result ≡ member_of net.now (view value.now) }
+    ensures number { result ≡ member_of net.now (view value.now) }
     ensures fits { IfSome result (λ number. number < 64) }
 {
     match value.as_str() {

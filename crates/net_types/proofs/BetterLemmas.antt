@@ -1,4 +1,4 @@
--- The order of routes, step by step.
+-- Of two routes one is better at most, and what is better than a better one is better.
 use Rattle.std.proofs.Common.{ℕ, ◌≡◌, ◌<◌, ◌==◌, ◌⊎◌, inl, inr, Bool, true, false, arith, ap, sym, refl, ◌∙◌, length, Option, Some, None, if◌then◌else◌}
 use Rattle.std.specs.declared.cmp.Ordering.{Ordering}
 use Rattle.std.specs.declared.cmp.Ordering.TheVariants.{Less, Equal, Greater}
@@ -14,7 +14,8 @@ use Rattle.net_types.specs.declared.routes.Route.{Route}
 use Rattle.net_types.specs.Arcs.{sender_of}
 use Rattle.net_types.specs.Better.{source_rank, origin_rank, same_router, med_step, is_better}
 use Rattle.net_types.specs.NetValue.{NetValue}
-use Rattle.net_types.specs.Laws.{AreOfOneKind, IsLowerOrigin, AlikeToPreference, AlikeToKind, AlikeToLength, AlikeToOrigin, GreaterWeightWins, GreaterPreferenceWins, LocalWins, ShorterPathWins, LowerOriginWins, LowerMedWins, OthersTie, OneIsBetter, BetterGoesOn}
+use Rattle.net_types.specs.Laws.{IsAhead, IsLowerOrigin, OneIsBetter, BetterGoesOn}
+use Rattle.net_types.proofs.OrderLemmas.{better_is_ahead}
 
 -- one step, and those behind it
 step_less : (o rest : Ordering) → o ≡ Less → is_lt (ordering_then o rest) ≡ true
@@ -57,61 +58,6 @@ by_kind net a b = ordering_then (nat_cmp (source_rank a.source) (source_rank b.s
 abbrev by_preference : NetValue → Route → Route → Ordering
 by_preference net a b = ordering_then (nat_cmp b.preference a.preference) (by_kind net a b)
 
-one_rank : (s t : Source) → AreOfOneKind s t → source_rank s ≡ source_rank t
-one_rank Local Local h = refl
-one_rank (Learned a) (Learned b) h = refl
-one_rank Local (Learned b) h = absurd h
-one_rank (Learned a) Local h = absurd h
-
-local_ranks : (s t : Source) (arc : Arc) → s ≡ Local → t ≡ Learned arc → source_rank s < source_rank t
-local_ranks s t arc e f = rw (e, f) (omega arith)
-
-origin_ranks : (o p : Origin) → IsLowerOrigin o p → origin_rank o < origin_rank p
-origin_ranks Igp Igp h = absurd h
-origin_ranks Igp Egp h = omega arith
-origin_ranks Igp Incomplete h = omega arith
-origin_ranks Egp Igp h = absurd h
-origin_ranks Egp Egp h = absurd h
-origin_ranks Egp Incomplete h = omega arith
-origin_ranks Incomplete Igp h = absurd h
-origin_ranks Incomplete Egp h = absurd h
-origin_ranks Incomplete Incomplete h = absurd h
-
-pub greater_weight_wins : GreaterWeightWins
-greater_weight_wins net a b h = wins b.weight a.weight (by_preference net a b) h
-
--- alike as far as a step, the rest decides
-after_preference : (net : NetValue) (a b : Route) (answer : Bool) → AlikeToPreference a b → is_lt (by_kind net a b) ≡ answer → is_better net a b ≡ answer
-after_preference net a b answer alike h =
-    passes b.weight a.weight (by_preference net a b) answer (sym alike.weight) (passes b.preference a.preference (by_kind net a b) answer (sym alike.preference) h)
-
-after_kind : (net : NetValue) (a b : Route) (answer : Bool) → AlikeToKind a b → is_lt (by_length net a b) ≡ answer → is_better net a b ≡ answer
-after_kind net a b answer alike h =
-    after_preference net a b answer alike.before (passes (source_rank a.source) (source_rank b.source) (by_length net a b) answer (one_rank a.source b.source alike.kind) h)
-
-after_length : (net : NetValue) (a b : Route) (answer : Bool) → AlikeToLength a b → is_lt (by_origin net a b) ≡ answer → is_better net a b ≡ answer
-after_length net a b answer alike h =
-    after_kind net a b answer alike.before (passes (length a.path) (length b.path) (by_origin net a b) answer alike.long h)
-
-after_origin : (net : NetValue) (a b : Route) (answer : Bool) → AlikeToOrigin a b → is_lt (by_med net a b) ≡ answer → is_better net a b ≡ answer
-after_origin net a b answer alike h =
-    after_length net a b answer alike.before (passes (origin_rank a.origin) (origin_rank b.origin) (by_med net a b) answer (ap origin_rank alike.origin) h)
-
-pub greater_preference_wins : GreaterPreferenceWins
-greater_preference_wins net a b e h =
-    passes b.weight a.weight (by_preference net a b) true (sym e) (wins b.preference a.preference (by_kind net a b) h)
-
-pub local_wins : LocalWins
-local_wins net a b arc alike here there =
-    after_preference net a b true alike (wins (source_rank a.source) (source_rank b.source) (by_length net a b) (local_ranks a.source b.source arc here there))
-
-pub shorter_path_wins : ShorterPathWins
-shorter_path_wins net a b alike h = after_kind net a b true alike (wins (length a.path) (length b.path) (by_origin net a b) h)
-
-pub lower_origin_wins : LowerOriginWins
-lower_origin_wins net a b alike h =
-    after_length net a b true alike (wins (origin_rank a.origin) (origin_rank b.origin) (by_med net a b) (origin_ranks a.origin b.origin h))
-
 -- MED by the two senders
 abbrev med_by : Option ℕ → Option ℕ → ℕ → ℕ → Ordering
 med_by o p m n = if same_router o p then nat_cmp m n else Equal
@@ -122,34 +68,24 @@ med_less o p v m n e f h = rw (e, f) (let t = eq-eqb v v refl in rw t (cmp_less 
 step_of_one : (net : NetValue) (s t : Source) (x y : Arc) (v m n : ℕ) → s ≡ Learned x → t ≡ Learned y → sender_of net x ≡ Some v → sender_of net y ≡ Some v → m < n → med_step net s t m n ≡ Less
 step_of_one net s t x y v m n e f g h less = rw (e, f) (med_less (sender_of net x) (sender_of net y) v m n g h less)
 
-pub lower_med_wins : LowerMedWins
-lower_med_wins net a b v alike x y less =
-    after_origin net a b true alike (step_less (med_step net a.source b.source a.med b.med) Equal (step_of_one net a.source b.source x.arc y.arc v a.med b.med x.learned y.learned x.sender y.sender less))
-
-med_by_ties : (o p : Option ℕ) (m n : ℕ) → ((v : ℕ) → o ≡ Some v → p ≡ Some v → m ≡ n) → is_lt (ordering_then (med_by o p m n) Equal) ≡ false
-med_by_ties None p m n same = refl
-med_by_ties (Some u) None m n same = refl
-med_by_ties (Some u) (Some v) m n same = go (u == v) refl where
-  go : (t : Bool) → (u == v) ≡ t → is_lt (ordering_then (if t then nat_cmp m n else Equal) Equal) ≡ false
-  go false e = refl
-  go true e = step_equal (nat_cmp m n) Equal (cmp_equal m n (same v (ap Some (eqb-true u v e)) refl))
-
-step_ties : (net : NetValue) (s t : Source) (m n : ℕ) → ((v : ℕ) (x y : Arc) → s ≡ Learned x → t ≡ Learned y → sender_of net x ≡ Some v → sender_of net y ≡ Some v → m ≡ n) → is_lt (ordering_then (med_step net s t m n) Equal) ≡ false
-step_ties net Local t m n same = refl
-step_ties net (Learned x) Local m n same = refl
-step_ties net (Learned x) (Learned y) m n same = med_by_ties (sender_of net x) (sender_of net y) m n (λ v e f. same v x y refl refl e f)
-
-pub others_tie : OthersTie
-others_tie net a b alike same =
-    after_origin net a b false alike (step_ties net a.source b.source a.med b.med (λ v x y e f g h. same v (record { arc = x; learned = e; sender = g }) (record { arc = y; learned = f; sender = h })))
+lower_itself : (o : Origin) → IsLowerOrigin o o → ⊥
+lower_itself Igp h = h
+lower_itself Egp h = h
+lower_itself Incomplete h = h
 
 -- no route is better than itself
-kind_itself : (s : Source) → AreOfOneKind s s
-kind_itself Local = tt
-kind_itself (Learned arc) = tt
+ahead_itself : (net : NetValue) (a : Route) → IsAhead net a a → ⊥
+ahead_itself net a h = elim h [
+  | inl more ↦ absurd (omega arith)
+  | inr (w, inl more) ↦ absurd (omega arith)
+  | inr (w, inr (p, inl (here, (arc, there)))) ↦ let d : ⊥ = cc in d
+  | inr (w, inr (p, inr (kind, inl shorter))) ↦ absurd (omega arith)
+  | inr (w, inr (p, inr (kind, inr (long, inl lower)))) ↦ lower_itself a.origin lower
+  | inr (w, inr (p, inr (kind, inr (long, inr (origin, (over, other, sender, e, f, g, i, less)))))) ↦ absurd (omega arith)
+]
 
 not_itself : (net : NetValue) (a : Route) → is_better net a a ≡ false
-not_itself net a = others_tie net a a (record { before = record { before = record { before = record { weight = refl; preference = refl }; kind = kind_itself a.source }; long = refl }; origin = refl }) (λ v x y. refl)
+not_itself net a = false_from_ne_true (is_better net a a) (λ e. ahead_itself net a ((better_is_ahead net a a).0 e))
 
 -- what a step that wins says
 tells : (x y : ℕ) (rest : Ordering) → is_lt (ordering_then (nat_cmp x y) rest) ≡ true → (x < y) ⊎ ((x ≡ y) × (is_lt rest ≡ true))

@@ -4,6 +4,7 @@ pub mod MaskLemmas
 pub mod SetLemmas
 pub mod CommunityLemmas
 pub mod PrefixLemmas
+pub mod OrderLemmas
 pub mod BetterLemmas
 pub mod NetLemmas
 pub mod WordLemmas

@@ -11,7 +11,8 @@ byte_at address place = address / 2 ^ (8 * place) % 256
 -- an address: its four bytes in decimal, the highest first, joined by points
 unfoldable pub address_text : ℕ → List ℕ
 address_text a =
-    decimal (byte_at a 3) then codes "." then decimal (byte_at a 2) then codes "." then decimal (byte_at a 1) then codes "." then decimal (byte_at a 0)
+    decimal (byte_at a 3) then codes "." then decimal (byte_at a 2) then
+    codes "." then decimal (byte_at a 1) then codes "." then decimal (byte_at a 0)
 
 -- a prefix: its first address, `/`, and its length
 unfoldable pub prefix_text : PrefixValue → List ℕ

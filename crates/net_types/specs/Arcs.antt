@@ -1,5 +1,5 @@
--- Arcs: one direction of a link, its two ends, and whether it is up.
-use Rattle.std.specs.Prelude.{ℕ, ◌&&◌, Bool, true, false, not, List, Option, option_map, slice_get}
+-- Arcs: one direction of a link, its two ends, and whether it is up; and networks without sessions.
+use Rattle.std.specs.Prelude.{ℕ, ◌≡◌, ◌&&◌, Bool, true, false, not, List, All, Option, option_map, slice_get}
 use Rattle.std.specs.Option.{option_map_or}
 use Rattle.net_types.specs.declared.arcs.Arc.{Arc}
 use Rattle.net_types.specs.declared.network.Link.{Link}
@@ -30,6 +30,10 @@ receiver_of net arc = option_map (λ link. (to_end arc.down link).router) (link_
 -- the arc is of a session
 abbrev pub is_session : NetValue → Arc → Bool
 is_session net arc = option_map_or (λ link. link.session) (link_of net arc) false
+
+-- no link of the network is a session of BGP
+abbrev pub HasNoSession : NetValue → Type 0
+HasNoSession net = All (λ (link : Link). link.session ≡ false) net.links
 
 -- the arc is up in BGP: it is of a session, and its link has not failed
 abbrev pub is_up : NetValue → List ℕ → Arc → Bool

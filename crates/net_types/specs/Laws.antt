@@ -6,7 +6,6 @@ use Rattle.std.specs.Int.{bit_not, w64}
 use Rattle.net_types.specs.declared.arcs.Arc.{Arc}
 use Rattle.net_types.specs.declared.config.Origin.{Origin}
 use Rattle.net_types.specs.declared.config.Origin.TheVariants.{Igp, Egp, Incomplete}
-use Rattle.net_types.specs.declared.routes.Source.{Source}
 use Rattle.net_types.specs.declared.routes.Source.TheVariants.{Local, Learned}
 use Rattle.net_types.specs.declared.routes.Route.{Route}
 use Rattle.net_types.specs.declared.network.Link.{Link}
@@ -69,17 +68,17 @@ EarlierIsEarlier = (p q r : PrefixValue) → prefix_before p q ≡ true → pref
 abbrev pub CoveringComesFirst : Type 0
 CoveringComesFirst = (p q : PrefixValue) → covers p q ≡ true → p ≢ q → prefix_before p q ≡ true
 
--- the route was learned from router v
-pub record IsFrom (net : NetValue) (route : Route) (v : ℕ) : Type 0 where
-  pub arc : Arc
-  pub learned : route.source ≡ Learned arc
-  pub sender : sender_of net arc ≡ Some v
+-- the route was learned over some arc
+abbrev pub IsLearned : Route → Type 0
+IsLearned route = (arc : Arc) × (route.source ≡ Learned arc)
+
+-- the route is originated by its router
+abbrev pub IsLocal : Route → Type 0
+IsLocal route = route.source ≡ Local
 
 -- both are local, or both are learned
-abbrev pub AreOfOneKind : Source → Source → Type 0
-AreOfOneKind Local Local = Unit {0}
-AreOfOneKind (Learned a) (Learned b) = Unit {0}
-AreOfOneKind _ _ = ⊥
+abbrev pub AreOfOneKind : Route → Route → Type 0
+AreOfOneKind a b = (IsLocal a × IsLocal b) ⊎ (IsLearned a × IsLearned b)
 
 -- the first origin is preferred
 abbrev pub IsLowerOrigin : Origin → Origin → Type 0
@@ -88,56 +87,24 @@ IsLowerOrigin Igp Incomplete = Unit {0}
 IsLowerOrigin Egp Incomplete = Unit {0}
 IsLowerOrigin _ _ = ⊥
 
--- the two routes are alike as far as this step
-pub record AlikeToPreference (a b : Route) : Type 0 where
-  pub weight : a.weight ≡ b.weight
-  pub preference : a.preference ≡ b.preference
+-- both routes come from one router, maybe over two links, and the MED of a is less
+abbrev pub HasLessMed : NetValue → Route → Route → Type 0
+HasLessMed net a b =
+    (over : Arc) × (other : Arc) × (sender : ℕ) × (a.source ≡ Learned over) × (b.source ≡ Learned other) ×
+    (sender_of net over ≡ Some sender) × (sender_of net other ≡ Some sender) × (a.med < b.med)
 
-pub record AlikeToKind (a b : Route) : Type 0 where
-  pub before : AlikeToPreference a b
-  pub kind : AreOfOneKind a.source b.source
+-- a has more weight; or as much, and more preference; and so on; after MED nothing decides
+abbrev pub IsAhead : NetValue → Route → Route → Type 0
+IsAhead net a b =
+    (b.weight < a.weight) ⊎ ((b.weight ≡ a.weight) ×
+    ((b.preference < a.preference) ⊎ ((b.preference ≡ a.preference) ×
+    ((IsLocal a × IsLearned b) ⊎ (AreOfOneKind a b ×
+    ((length a.path < length b.path) ⊎ ((length a.path ≡ length b.path) ×
+    (IsLowerOrigin a.origin b.origin ⊎ ((a.origin ≡ b.origin) × HasLessMed net a b)))))))))
 
-pub record AlikeToLength (a b : Route) : Type 0 where
-  pub before : AlikeToKind a b
-  pub long : length a.path ≡ length b.path
-
-pub record AlikeToOrigin (a b : Route) : Type 0 where
-  pub before : AlikeToLength a b
-  pub origin : a.origin ≡ b.origin
-
--- the greater weight wins, whatever else
-abbrev pub GreaterWeightWins : Type 0
-GreaterWeightWins = (net : NetValue) (a b : Route) → b.weight < a.weight → is_better net a b ≡ true
-
--- then the greater local preference
-abbrev pub GreaterPreferenceWins : Type 0
-GreaterPreferenceWins = (net : NetValue) (a b : Route) → a.weight ≡ b.weight → b.preference < a.preference → is_better net a b ≡ true
-
--- then a local route over a learned one
-abbrev pub LocalWins : Type 0
-LocalWins =
-    (net : NetValue) (a b : Route) (arc : Arc) → AlikeToPreference a b → a.source ≡ Local → b.source ≡ Learned arc →
-    is_better net a b ≡ true
-
--- then the shorter path
-abbrev pub ShorterPathWins : Type 0
-ShorterPathWins = (net : NetValue) (a b : Route) → AlikeToKind a b → length a.path < length b.path → is_better net a b ≡ true
-
--- then the lower origin
-abbrev pub LowerOriginWins : Type 0
-LowerOriginWins = (net : NetValue) (a b : Route) → AlikeToLength a b → IsLowerOrigin a.origin b.origin → is_better net a b ≡ true
-
--- then the lower MED, of two routes that are learned from one router
-abbrev pub LowerMedWins : Type 0
-LowerMedWins =
-    (net : NetValue) (a b : Route) (v : ℕ) → AlikeToOrigin a b → IsFrom net a v → IsFrom net b v → a.med < b.med →
-    is_better net a b ≡ true
-
--- nothing else decides: routes that are alike so far, and have one MED where they come from one router, are as good
-abbrev pub OthersTie : Type 0
-OthersTie =
-    (net : NetValue) (a b : Route) → AlikeToOrigin a b → ((v : ℕ) → IsFrom net a v → IsFrom net b v → a.med ≡ b.med) →
-    is_better net a b ≡ false
+-- a route is better exactly where it is ahead
+abbrev pub BetterIsAhead : Type 0
+BetterIsAhead = (net : NetValue) (a b : Route) → (is_better net a b ≡ true) ↔ IsAhead net a b
 
 -- of two routes one is better at most, and so none is better than itself
 abbrev pub OneIsBetter : Type 0
@@ -162,32 +129,39 @@ UpGoesToTheHigher =
 
 abbrev pub DownGoesBack : Type 0
 DownGoesBack =
-    (net : NetValue) (link : ℕ) → (sender_of net (down_of link) ≡ receiver_of net (up_of link)) × (receiver_of net (down_of link) ≡ sender_of net (up_of link))
+    (net : NetValue) (link : ℕ) → (sender_of net (down_of link) ≡ receiver_of net (up_of link)) ×
+    (receiver_of net (down_of link) ≡ sender_of net (up_of link))
 
 -- an adjacency that is up is crossed both ways, each at the cost of the interface that it is left by
 abbrev pub AdjacenciesAreCrossed : Type 0
 AdjacenciesAreCrossed =
-    (net : NetValue) (failed : List ℕ) (number : ℕ) (link : Link) → slice_get net.links number ≡ Some link → link.adjacency ≡ true → holds failed number ≡ false →
-    Crosses net failed (up_of number) link.low.router link.high.router link.low.cost × Crosses net failed (down_of number) link.high.router link.low.router link.high.cost
+    (net : NetValue) (failed : List ℕ) (number : ℕ) (link : Link) → slice_get net.links number ≡ Some link →
+    link.adjacency ≡ true → holds failed number ≡ false →
+    Crosses net failed (up_of number) link.low.router link.high.router link.low.cost ×
+    Crosses net failed (down_of number) link.high.router link.low.router link.high.cost
 
 -- and nothing else is crossed, nor otherwise
 abbrev pub OnlyAdjacenciesAreCrossed : Type 0
 OnlyAdjacenciesAreCrossed =
     (net : NetValue) (failed : List ℕ) (number u v cost : ℕ) (link : Link) → slice_get net.links number ≡ Some link →
-    (Crosses net failed (up_of number) u v cost → (link.adjacency ≡ true) × (holds failed number ≡ false) × (u ≡ link.low.router) × (v ≡ link.high.router) × (cost ≡ link.low.cost)) ×
-    (Crosses net failed (down_of number) u v cost → (link.adjacency ≡ true) × (holds failed number ≡ false) × (u ≡ link.high.router) × (v ≡ link.low.router) × (cost ≡ link.high.cost))
+    (Crosses net failed (up_of number) u v cost → (link.adjacency ≡ true) × (holds failed number ≡ false) ×
+    (u ≡ link.low.router) × (v ≡ link.high.router) × (cost ≡ link.low.cost)) ×
+    (Crosses net failed (down_of number) u v cost → (link.adjacency ≡ true) × (holds failed number ≡ false) ×
+    (u ≡ link.high.router) × (v ≡ link.low.router) × (cost ≡ link.high.cost))
 
 -- a router owns the prefix of each of its entries, and has a stub of it at the entry's cost, none where the entry has none
 abbrev pub EntriesAreOwned : Type 0
 EntriesAreOwned =
-    (net : NetValue) (u i : ℕ) (router : Router) (entry : Owned) → IsNet net → slice_get net.routers u ≡ Some router → slice_get router.owned i ≡ Some entry →
+    (net : NetValue) (u i : ℕ) (router : Router) (entry : Owned) → IsNet net → slice_get net.routers u ≡ Some router →
+    slice_get router.owned i ≡ Some entry →
     (owns net u entry.prefix ≡ true) × (stub_cost net entry.prefix u ≡ entry.ospf_cost)
 
 -- and it owns no other prefix
 abbrev pub OwnersHaveEntries : Type 0
 OwnersHaveEntries =
     (net : NetValue) (u : ℕ) (prefix : PrefixValue) → owns net u prefix ≡ true →
-    (router : Router) × (i : ℕ) × (entry : Owned) × (slice_get net.routers u ≡ Some router) × (slice_get router.owned i ≡ Some entry) × (entry.prefix ≡ prefix)
+    (router : Router) × (i : ℕ) × (entry : Owned) × (slice_get net.routers u ≡ Some router) ×
+    (slice_get router.owned i ≡ Some entry) × (entry.prefix ≡ prefix)
 
 -- a router with a stub of a prefix owns it
 abbrev pub StubsAreOwned : Type 0
@@ -254,5 +228,6 @@ CommunitiesReadBack =
 
 abbrev pub NamedCommunitiesAreRead : Type 0
 NamedCommunitiesAreRead =
-    (community_of (codes "no-export") ≡ community_of (codes "65535:65281")) × (community_of (codes "no-advertise") ≡ community_of (codes "65535:65282")) ×
+    (community_of (codes "no-export") ≡ community_of (codes "65535:65281")) ×
+    (community_of (codes "no-advertise") ≡ community_of (codes "65535:65282")) ×
     (community_of (codes "no-export") ≡ Some no_export) × (community_of (codes "no-advertise") ≡ Some no_advertise)

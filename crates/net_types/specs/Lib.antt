@@ -14,6 +14,8 @@ pub mod NetValue
 pub mod Owners
 pub mod NetFacts
 pub mod Communities
+pub mod Numbering
+pub mod Routes
 pub mod Arcs
 pub mod Distance
 pub mod Better

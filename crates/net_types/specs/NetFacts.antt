@@ -152,7 +152,7 @@ AreApart a b = IfSome a (λ m. IfSome b (λ n. m ≢ n))
 pub record IsNet (net : NetValue) : Type 0 where
   pub few_routers : length net.routers ≤ 64
   pub hosts : AllPairs (λ (a b : Router). text_before a.host b.host ≡ true) net.routers
-  pub systems : AllPairs (λ (a b : Router). AreApart a.asn b.asn) net.routers
+  pub asns : AllPairs (λ (a b : Router). AreApart a.asn b.asn) net.routers
   pub routers : All (IsRouter (length net.communities)) net.routers
   pub few_links : length net.links ≤ 64
   pub subnets : AllPairs (λ (a b : Link). prefix_before a.subnet b.subnet ≡ true) net.links

@@ -15,9 +15,13 @@ is_owned prefix owned = list_any (λ entry. same_prefix entry.prefix prefix) own
 abbrev pub owns : NetValue → ℕ → PrefixValue → Bool
 owns net u prefix = option_map_or (λ router. is_owned prefix router.owned) (slice_get net.routers u) false
 
--- the OSPF cost of the prefix's entry among what a router owns, where there is one; an owner may have none
+-- the entry of the prefix among what a router owns, where it is an owner
+abbrev pub entry_of : PrefixValue → List Owned → Option Owned
+entry_of prefix owned = find (λ entry. same_prefix entry.prefix prefix) owned
+
+-- the OSPF cost of that entry, where there is one; an owner may have none
 abbrev pub stub_of : PrefixValue → List Owned → Option ℕ
-stub_of prefix owned = option_and_then (λ entry. entry.ospf_cost) (find (λ entry. same_prefix entry.prefix prefix) owned)
+stub_of prefix owned = option_and_then (λ entry. entry.ospf_cost) (entry_of prefix owned)
 
 -- the cost of the router's OSPF stub of the prefix, where it has one: as its entry says, where `topology` puts the
 -- least cost of the stubs of that prefix

@@ -7,7 +7,14 @@ ghost use Rattle.net_types.specs.Order.{same_text};
 
 use crate::{cut, read_number};
 
-fn is_word(wanted: &[u8], text: &[u8]) -> bool
+/// NO_EXPORT of RFC 1997.
+pub const NO_EXPORT: u32 = 0xFFFF_FF01;
+
+/// NO_ADVERTISE of RFC 1997.
+pub const NO_ADVERTISE: u32 = 0xFFFF_FF02;
+
+/// Whether the text is this word.
+pub(crate) fn is_word(wanted: &[u8], text: &[u8]) -> bool
     ensures { result ≡ same_text wanted.now text.now }
 {
     wanted == text
@@ -42,9 +49,9 @@ pub fn read_community(text: &[u8]) -> Option<u32>
     ensures { result ≡ community_of text.now }
 {
     if is_word(b"no-export", text) {
-        Some(0xFFFF_FF01)
+        Some(NO_EXPORT)
     } else if is_word(b"no-advertise", text) {
-        Some(0xFFFF_FF02)
+        Some(NO_ADVERTISE)
     } else {
         pair_of(text)
     }

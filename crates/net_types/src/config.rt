@@ -1,5 +1,10 @@
 //! What one FRRouting configuration file says.
 
+ghost use Rattle.std.specs.Prelude.{◌≡◌};
+ghost use Rattle.net_types.specs.Better.{origin_rank};
+ghost use Rattle.net_types.specs.Routes.{origin_of};
+
+use crate::communities::is_word;
 use crate::{List, Prefix, Text};
 
 /// A configuration file: its name in its folder, and its bytes.
@@ -195,4 +200,32 @@ pub enum Origin {
     Egp,
     /// By other means.
     Incomplete,
+}
+
+impl Origin {
+    /// Its place in the order of origins, the lowest being 0.
+    pub fn rank(self) -> u8
+        ensures { result ≡ origin_rank self }
+    {
+        match self {
+            Origin::Igp => 0,
+            Origin::Egp => 1,
+            Origin::Incomplete => 2,
+        }
+    }
+}
+
+/// The origin of a text: `igp`, `egp` or `incomplete`. Else none.
+pub fn read_origin(text: &[u8]) -> Option<Origin>
+    ensures { result ≡ origin_of text.now }
+{
+    if is_word(b"igp", text) {
+        Some(Origin::Igp)
+    } else if is_word(b"egp", text) {
+        Some(Origin::Egp)
+    } else if is_word(b"incomplete", text) {
+        Some(Origin::Incomplete)
+    } else {
+        None
+    }
 }

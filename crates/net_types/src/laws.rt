@@ -1,7 +1,7 @@
 //! What is true of the words of the project, stated over definitions: each law is the contract of a
 //! function that does nothing.
 
-ghost use Rattle.net_types.specs.Laws.{AddressesLieInTheirSubnets, CoversEachAddress, OverlapsAtAnAddress, SamePrefixIsOne, PrefixesAreApart, OnePrefixIsFirst, EarlierIsEarlier, CoveringComesFirst, GreaterWeightWins, GreaterPreferenceWins, LocalWins, ShorterPathWins, LowerOriginWins, LowerMedWins, OthersTie, OneIsBetter, BetterGoesOn, UpGoesToTheHigher, DownGoesBack, AdjacenciesAreCrossed, OnlyAdjacenciesAreCrossed, EntriesAreOwned, OwnersHaveEntries, StubsAreOwned, WithoutHoldsTheOthers, WithoutIsFailureSet, WordsAreSets, WordsChangeByOne, WordsHaveEnds, SameMembersAreOneSet, NumbersReadBack, NumbersHaveOneText, AddressesReadBack, AddressesHaveOneText, PrefixesReadBack, PrefixesHaveOneText, CommunitiesReadBack, NamedCommunitiesAreRead};
+ghost use Rattle.net_types.specs.Laws.{AddressesLieInTheirSubnets, CoversEachAddress, OverlapsAtAnAddress, SamePrefixIsOne, PrefixesAreApart, OnePrefixIsFirst, EarlierIsEarlier, CoveringComesFirst, BetterIsAhead, OneIsBetter, BetterGoesOn, UpGoesToTheHigher, DownGoesBack, AdjacenciesAreCrossed, OnlyAdjacenciesAreCrossed, EntriesAreOwned, OwnersHaveEntries, StubsAreOwned, WithoutHoldsTheOthers, WithoutIsFailureSet, WordsAreSets, WordsChangeByOne, WordsHaveEnds, SameMembersAreOneSet, NumbersReadBack, NumbersHaveOneText, AddressesReadBack, AddressesHaveOneText, PrefixesReadBack, PrefixesHaveOneText, CommunitiesReadBack, NamedCommunitiesAreRead};
 
 /// A prefix is a set of addresses: it covers another where it holds each address of the other, and two
 /// overlap where they share one.
@@ -20,16 +20,10 @@ pub fn law_of_prefixes()
     ensures covering { CoveringComesFirst }
 {}
 
-/// The order of routes: the steps, each where those before it see no difference; after the last, both
-/// routes are as good. MED counts between routes from one router alone.
-pub fn law_of_steps()
-    ensures weight { GreaterWeightWins }
-    ensures preference { GreaterPreferenceWins }
-    ensures kind { LocalWins }
-    ensures path { ShorterPathWins }
-    ensures origin { LowerOriginWins }
-    ensures med { LowerMedWins }
-    ensures others { OthersTie }
+/// A route is better than another exactly where it is ahead: by weight, or with equal weight by preference,
+/// and so on, MED being compared where both come from one router.
+pub fn law_of_order()
+    ensures { BetterIsAhead }
 {}
 
 /// No route is better than itself, and what is better than a better one is better.

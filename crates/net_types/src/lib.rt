@@ -1,7 +1,9 @@
 //! The words of the project: what a router's configuration, a network, a route and a refusal are.
 //!
-//! Decides: how addresses, prefixes and numbers are read from text, which prefix covers which, and
-//! what is true of every network (`specs/NetFacts.antt`). What a file means, `frr_reader` decides.
+//! Decides: how addresses, prefixes, numbers, names, communities and origins are read from text, which
+//! prefix covers which, which numbers routers and communities have, what is true of every network
+//! (`specs/NetFacts.antt`), and, as definitions, distance, next hop and the order of routes. What a file
+//! means, `frr_reader` decides.
 //! Stands on: nothing of the project.
 //! Promises: each reader gives the value of exactly the texts that its definition reads, a `Net` keeps its
 //! validity, and the laws of `specs/Laws.antt`. Not: that a network came from any file.
@@ -32,22 +34,22 @@ pub use address_texts::{address_text, prefix_text};
 pub use addresses::{read_address, read_interface};
 pub use arcs::Arc;
 pub use bits::Bits64;
-pub use communities::read_community;
+pub use communities::{NO_ADVERTISE, NO_EXPORT, read_community};
 pub use config::{
     BgpConfig, CommunityEntry, CommunityList, Interface, MapEntry, Neighbor, Origin, PrefixEntry,
-    PrefixList, Redistribute, RouteMap, RouterConfig, SetCommunity, Sets, SourceFile,
+    PrefixList, Redistribute, RouteMap, RouterConfig, SetCommunity, Sets, SourceFile, read_origin,
 };
 pub use cuts::cut;
 pub use fail_sets::FailSet;
 pub use laws::{
     law_of_addresses, law_of_arcs, law_of_better, law_of_communities, law_of_failure_sets,
-    law_of_numbers, law_of_owners, law_of_prefixes, law_of_steps, law_of_texts, law_of_words,
+    law_of_numbers, law_of_order, law_of_owners, law_of_prefixes, law_of_texts, law_of_words,
 };
 pub use lists::List;
 pub use names::{is_host, is_name};
 pub use network::{
     End, Link, Net, NetCommunityEntry, NetCommunityList, NetMap, NetMapEntry, NetSetCommunity,
-    NetSets, Notice, Owned, Policy, Router,
+    NetSets, Notice, Owned, Policy, Router, community_among, entry_of, is_owned,
 };
 pub use no_memory::NoMemory;
 pub use numbers::read_number;

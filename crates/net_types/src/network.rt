@@ -1,9 +1,11 @@
 //! The network of a bundle: its routers, its links, and what they run.
 
-ghost use Rattle.std.specs.Prelude.{◌≡◌, ◌<◌, length};
+ghost use Rattle.std.specs.Prelude.{◌≡◌, ◌<◌, IfSome, length};
+ghost use Rattle.std.specs.Option.{option_copied};
 ghost use Rattle.net_types.specs.NetValue.{NetValue};
 ghost use Rattle.net_types.specs.NetFacts.{IsNet};
-ghost use Rattle.net_types.specs.Owners.{is_owned, owns};
+ghost use Rattle.net_types.specs.Numbering.{community_among, community_number, router_among, router_number};
+ghost use Rattle.net_types.specs.Owners.{entry_of, is_owned, owns};
 
 use crate::{Bits64, List, Origin, Prefix, PrefixList, Text};
 use std::marker::Model;
@@ -253,11 +255,61 @@ impl Net {
             None => false,
         }
     }
+
+    /// The number of the router with this host, none where there is no such router.
+    pub fn router_number(&self, host: &[u8]) -> Option<u8>
+        ensures number { result ≡ router_number self.now host.now }
+        ensures within { IfSome result (λ number. number < length self.now.routers) }
+        ensures small { IfSome result (λ number. number < 64) }
+    {
+        self.valid();
+        match router_among(self.routers(), host) {
+            Some(number) => Some(number as u8),
+            None => None,
+        }
+    }
+
+    /// The number of the community with this value, none where the network has no such community.
+    pub fn community_number(&self, value: u32) -> Option<u8>
+        ensures number { result ≡ community_number self.now value }
+        ensures small { IfSome result (λ number. number < 64) }
+    {
+        self.valid();
+        match community_among(self.communities(), value) {
+            Some(number) => Some(number as u8),
+            None => None,
+        }
+    }
 }
 
-// Whether the prefix is among these.
-fn is_owned(owned: &[Owned], prefix: &Prefix) -> bool
+// The place of the router with this host.
+fn router_among(routers: &[Router], host: &[u8]) -> Option<usize>
+    ensures number { result ≡ router_among routers.now host.now }
+    ensures within { IfSome result (λ number. number < length routers.now) }
+{
+    routers
+        .iter()
+        .position(|router| router.host.as_bytes() == host)
+}
+
+/// The place of the community with this value among these, none where it is not there.
+pub fn community_among(communities: &[u32], value: u32) -> Option<usize>
+    ensures number { result ≡ community_among communities.now value }
+    ensures within { IfSome result (λ number. number < length communities.now) }
+{
+    communities.iter().position(|community| *community == value)
+}
+
+/// Whether the prefix is among those of these entries.
+pub fn is_owned(owned: &[Owned], prefix: &Prefix) -> bool
     ensures { result ≡ is_owned prefix.now owned.now }
 {
     owned.iter().any(|entry| entry.prefix.is_same(prefix))
+}
+
+/// The entry of the prefix among these, none where none is of it.
+pub fn entry_of<'a>(prefix: &Prefix, owned: &'a [Owned]) -> Option<&'a Owned>
+    ensures { option_copied result ≡ entry_of prefix.now owned.now }
+{
+    owned.iter().find(|entry| entry.prefix.is_same(prefix))
 }

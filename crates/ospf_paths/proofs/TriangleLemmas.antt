@@ -41,7 +41,7 @@ pub triangle_is : (a b c : Router) (k l m n : Link) → a.host ≡ 97 ∷ [] →
 triangle_is a b c k l m n ha hb hc sa sb va vb vc sk sl sm sn vk vl vm vn = record {
   few_routers = lit≤ tt;
   hosts = each_pair (λ (x y : Router). text_before x.host y.host ≡ true) a b c (before a b (97 ∷ []) (98 ∷ []) ha hb refl) (before a c (97 ∷ []) (99 ∷ []) ha hc refl) (before b c (98 ∷ []) (99 ∷ []) hb hc refl);
-  systems = each_pair (λ (x y : Router). AreApart x.asn y.asn) a b c (apart a b sa) (apart a c sa) (apart b c sb);
+  asns = each_pair (λ (x y : Router). AreApart x.asn y.asn) a b c (apart a b sa) (apart a c sa) (apart b c sb);
   routers = all_three (IsRouter 2) a b c va vb vc;
   few_links = lit≤ tt;
   subnets =

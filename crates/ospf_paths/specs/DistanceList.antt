@@ -22,7 +22,8 @@ leads_from failed u number link down = link.adjacency && not (holds failed numbe
 -- the sum from u over that direction: the cost of the outgoing interface and what is left from the other end
 abbrev pub sum_over : (ℕ → Option ℕ) → List ℕ → ℕ → ℕ → Link → Bool → Option ℕ
 sum_over rest failed u number link down =
-    if leads_from failed u number link down then option_map (λ far. (from_end down link).cost + far) (rest (to_end down link).router) else None
+    if leads_from failed u number link down
+    then option_map (λ far. (from_end down link).cost + far) (rest (to_end down link).router) else None
 
 -- the least of these sums over links, of which the first has this number
 unfoldable pub least_over : (ℕ → Option ℕ) → List ℕ → ℕ → ℕ → List Link → Option ℕ

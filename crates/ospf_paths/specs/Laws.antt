@@ -13,7 +13,8 @@ use Rattle.ospf_paths.specs.DistanceList.{distance_list}
 -- a router with a distance that is no owner has a next hop
 abbrev pub FarRoutersHop : Type 0
 FarRoutersHop =
-    (net : NetValue) (prefix : PrefixValue) (failed : List ℕ) (distances : List (Option ℕ)) → IsNet net → AreDistances net prefix failed distances →
+    (net : NetValue) (prefix : PrefixValue) (failed : List ℕ) (distances : List (Option ℕ)) → IsNet net →
+    AreDistances net prefix failed distances →
     (u distance : ℕ) → distance_at distances u ≡ Some distance → owns net u prefix ≡ false →
     (v : ℕ) × HasHop net prefix failed distances u v
 
@@ -31,14 +32,18 @@ IsTightArc net failed distances arc = (u : ℕ) × (v : ℕ) × IsTight net fail
 -- after the first arc of a least walk, which is tight, there is a least walk again
 abbrev pub LeastWalksGoOn : Type 0
 LeastWalksGoOn =
-    (net : NetValue) (prefix : PrefixValue) (failed : List ℕ) (distances : List (Option ℕ)) → IsNet net → AreDistances net prefix failed distances →
-    (arc : Arc) (arcs : List Arc) (u distance : ℕ) → IsWalk net prefix failed (arc ∷ arcs) u distance → distance_at distances u ≡ Some distance →
-    (v : ℕ) × (rest : ℕ) × IsTight net failed distances arc u v × IsWalk net prefix failed arcs v rest × (distance_at distances v ≡ Some rest)
+    (net : NetValue) (prefix : PrefixValue) (failed : List ℕ) (distances : List (Option ℕ)) → IsNet net →
+    AreDistances net prefix failed distances →
+    (arc : Arc) (arcs : List Arc) (u distance : ℕ) → IsWalk net prefix failed (arc ∷ arcs) u distance →
+    distance_at distances u ≡ Some distance →
+    (v : ℕ) × (rest : ℕ) × IsTight net failed distances arc u v × IsWalk net prefix failed arcs v rest ×
+    (distance_at distances v ≡ Some rest)
 
 -- so all arcs of a least walk are tight
 abbrev pub LeastWalksAreTight : Type 0
 LeastWalksAreTight =
-    (net : NetValue) (prefix : PrefixValue) (failed : List ℕ) (distances : List (Option ℕ)) → IsNet net → AreDistances net prefix failed distances →
+    (net : NetValue) (prefix : PrefixValue) (failed : List ℕ) (distances : List (Option ℕ)) → IsNet net →
+    AreDistances net prefix failed distances →
     (arcs : List Arc) (u distance : ℕ) → IsWalk net prefix failed arcs u distance → distance_at distances u ≡ Some distance →
     All (IsTightArc net failed distances) arcs
 
@@ -51,7 +56,8 @@ DistancesAreOne =
 -- each distance is below 2 ^ 32
 abbrev pub DistancesAreSmall : Type 0
 DistancesAreSmall =
-    (net : NetValue) (prefix : PrefixValue) (failed : List ℕ) (distances : List (Option ℕ)) → IsNet net → AreDistances net prefix failed distances →
+    (net : NetValue) (prefix : PrefixValue) (failed : List ℕ) (distances : List (Option ℕ)) → IsNet net →
+    AreDistances net prefix failed distances →
     (u distance : ℕ) → distance_at distances u ≡ Some distance → distance < 2 ^ 32
 
 -- the distance list is the list of distances
@@ -68,7 +74,8 @@ pub record IsWith (failed : List ℕ) (link : ℕ) (more : List ℕ) : Type 0 wh
 -- where no direction of a link is tight, its failure changes no distance
 abbrev pub SlackLinksKeepDistances : Type 0
 SlackLinksKeepDistances =
-    (net : NetValue) (prefix : PrefixValue) (failed more : List ℕ) (link : ℕ) (distances : List (Option ℕ)) → IsNet net → AreDistances net prefix failed distances →
+    (net : NetValue) (prefix : PrefixValue) (failed more : List ℕ) (link : ℕ) (distances : List (Option ℕ)) → IsNet net →
+    AreDistances net prefix failed distances →
     IsWith failed link more → ((arc : Arc) → IsTightArc net failed distances arc → arc.link ≢ link) →
     AreDistances net prefix more distances
 
@@ -87,7 +94,8 @@ HeldLinksComeBack = (set : List ℕ) (link : ℕ) → holds set link ≡ true �
 abbrev pub FailuresLengthen : Type 0
 FailuresLengthen =
     (net : NetValue) (prefix : PrefixValue) (failed more : List ℕ) (before after : List (Option ℕ)) →
-    AreDistances net prefix failed before → AreDistances net prefix more after → ((link : ℕ) → holds failed link ≡ true → holds more link ≡ true) →
+    AreDistances net prefix failed before → AreDistances net prefix more after →
+    ((link : ℕ) → holds failed link ≡ true → holds more link ≡ true) →
     (u far : ℕ) → distance_at after u ≡ Some far →
     (near : ℕ) × (distance_at before u ≡ Some near) × (near ≤ far)
 
@@ -95,7 +103,8 @@ FailuresLengthen =
 pub record LacksLinks (net : NetValue) (links : List ℕ) (other : NetValue) : Type 0 where
   pub routers : other.routers ≡ net.routers
   pub past : (k : ℕ) → slice_get net.links k ≡ None → slice_get other.links k ≡ None
-  pub lacking : (k : ℕ) (link : Link) → slice_get net.links k ≡ Some link → Contains links k → slice_get other.links k ≡ Some (record link { adjacency = false })
+  pub lacking : (k : ℕ) (link : Link) → slice_get net.links k ≡ Some link → Contains links k →
+      slice_get other.links k ≡ Some (record link { adjacency = false })
   pub kept : (k : ℕ) (link : Link) → slice_get net.links k ≡ Some link → (Contains links k → ⊥) → slice_get other.links k ≡ Some link
 
 -- a link that has failed counts as one that is no adjacency

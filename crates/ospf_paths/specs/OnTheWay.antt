@@ -33,7 +33,8 @@ pub record AreBounded (net : NetValue) (distances : List (Option ℕ)) : Type 0 
 -- each entry is the sum of a walk, and no stub is nearer
 pub record AreSums (net : NetValue) (prefix : PrefixValue) (failed : List ℕ) (distances : List (Option ℕ)) : Type 0 where
   pub walk : (u distance : ℕ) → distance_at distances u ≡ Some distance → (arcs : List Arc) × IsWalk net prefix failed arcs u distance
-  pub stub : (u cost : ℕ) → stub_cost net prefix u ≡ Some cost → (distance : ℕ) × (distance_at distances u ≡ Some distance) × (distance ≤ cost)
+  pub stub : (u cost : ℕ) → stub_cost net prefix u ≡ Some cost →
+      (distance : ℕ) × (distance_at distances u ≡ Some distance) × (distance ≤ cost)
 
 -- the arc shortens nothing
 abbrev pub IsSettled : NetValue → List ℕ → List (Option ℕ) → Arc → Type 0

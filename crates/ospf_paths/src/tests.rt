@@ -71,7 +71,7 @@ fn owned_of(alloc: Global, has: Has) -> Result<List<Owned>, NoMemory>
 // A router without BGP, in a network of two communities.
 fn router(alloc: Global, host: &str, has: Has) -> Result<Router, NoMemory>
     ensures host { IfOk result (λ router. router.host ≡ host.now) }
-    ensures system { IfOk result (λ router. router.asn ≡ None) }
+    ensures asn { IfOk result (λ router. router.asn ≡ None) }
     ensures valid { IfOk result (IsRouter 2) }
 {
     Ok(Router {

@@ -48,7 +48,8 @@ first_bytes_at content path limit = option_map (λ all. take limit all) (bytes_a
 
 -- a folder is there: it is named, or a file lies in it at some depth
 abbrev pub is_folder : Content → List ℕ → Bool
-is_folder content folder = list_any (λ named. same_text named folder) content.folders || list_any (λ file. is_some (below folder file.0)) content.files
+is_folder content folder = list_any (λ named. same_text named folder) content.folders ||
+    list_any (λ file. is_some (below folder file.0)) content.files
 
 -- a name of a file in a folder: it has no '/', and its path is that of a file
 pub record IsNameIn (content : Content) (folder name : List ℕ) : Type 0 where

@@ -42,7 +42,9 @@ entry_name folder entry = if names_folder entry.name then None else name_in fold
 
 -- an entry makes a folder be there
 abbrev pub makes_folder : List ℕ → SourceFile → Bool
-makes_folder folder entry = if names_folder entry.name then same_text (take (length entry.name - 1) entry.name) folder else is_some (below folder entry.name)
+makes_folder folder entry =
+    if names_folder entry.name then same_text (take (length entry.name - 1) entry.name) folder
+    else is_some (below folder entry.name)
 
 -- an entry is the file at a path
 abbrev pub is_file_at : List ℕ → SourceFile → Bool

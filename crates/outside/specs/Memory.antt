@@ -12,7 +12,8 @@ pub record ShelfValue : Type 0 where
 
 -- the answer of `list`: a listed call fails, else the content decides
 abbrev pub ListsExactly : ShelfValue → List ℕ → Result (List (List ℕ)) ShelfError → Type 0
-ListsExactly shelf folder (Ok names) = (fails shelf.calls ≡ false) × (is_folder shelf.content folder ≡ true) × (names ≡ names_in shelf.content folder)
+ListsExactly shelf folder (Ok names) = (fails shelf.calls ≡ false) × (is_folder shelf.content folder ≡ true) ×
+    (names ≡ names_in shelf.content folder)
 ListsExactly shelf folder (Err Failed) = fails shelf.calls ≡ true
 ListsExactly shelf folder (Err Absent) = (fails shelf.calls ≡ false) × (is_folder shelf.content folder ≡ false)
 ListsExactly shelf folder (Err NoMemory) = fails shelf.calls ≡ false

@@ -1,13 +1,6 @@
-pub mod ZipLemmas
 pub mod NameLemmas
 pub mod FolderLemmas
 pub mod StopLemmas
 pub mod StableLemmas
 pub mod RunLemmas
-pub mod ForwardLemmas
-pub mod QuietLemmas
-pub mod StepLemmas
-pub mod LoopLemmas
-pub mod HoldsLemmas
-pub mod CaseLemmas
 pub mod SpeakerLemmas

@@ -1,7 +1,6 @@
 -- What a run comes to, from what its command came to and how that was written.
 use Rattle.std.proofs.Common.{ℕ, ◌≡◌, ◌≤◌, ◌⊎◌, inl, inr, ◌++◌, Bool, true, false, List, Option, Some, None, Result, Ok, Err, sym, subst, ap, ◌∙◌, arith}
 use Rattle.outside.specs.Content.{Content}
-use Rattle.outside.specs.Faults.{Rose}
 use Rattle.route_desk.specs.declared.answer.Answer.{Answer}
 use Rattle.route_desk.specs.declared.stop.Stop.{Stop}
 use Rattle.route_desk.specs.declared.stop.Stop.TheVariants.{Refused, ReadFault, NoMemory}

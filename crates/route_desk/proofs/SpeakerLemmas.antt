@@ -6,9 +6,9 @@ use Rattle.net_types.specs.declared.network.End.{End}
 use Rattle.net_types.specs.declared.network.Link.{Link}
 use Rattle.net_types.specs.declared.network.Router.{Router}
 use Rattle.net_types.specs.NetValue.{NetValue}
-use Rattle.topology.specs.Meaning.{HasSystem, SessionsHaveSystems}
+use Rattle.net_types.specs.Arcs.{HasNoSession}
+use Rattle.topology.specs.Meaning.{HasAsn, SessionsHaveAsns}
 use Rattle.route_desk.specs.Ending.{first_speaker, speaks_bgp}
-use Rattle.route_desk.specs.Verdicts.{HasNoSession}
 
 none_found : (routers : List Router) (k : ℕ) (router : Router) → find speaks_bgp routers ≡ None → slice_get routers k ≡ Some router → speaks_bgp router ≡ false
 none_found [] k router none is = absurd (let e : None ≡ Some router = is in cc)
@@ -25,15 +25,15 @@ no_host : (o : Option Router) → option_map (λ (router : Router). router.host)
 no_host None e = refl
 no_host (Some router) e = absurd (let f : Some router.host ≡ None = e in cc)
 
-silent : (net : NetValue) (end : End) → first_speaker net ≡ None → HasSystem net end → ⊥
+silent : (net : NetValue) (end : End) → first_speaker net ≡ None → HasAsn net end → ⊥
 silent net end none has =
     let quiet = none_found net.routers end.router has.router (no_host (find speaks_bgp net.routers) none) has.there in
     false≢true (sym quiet ∙ ap (λ (asn : Option ℕ). is_some asn) has.has)
 
-pub no_session : (net : NetValue) → SessionsHaveSystems net → first_speaker net ≡ None → HasNoSession net
-no_session net systems none =
-    All-weaker (λ (link : Link). link.session ≡ true → HasSystem net link.low × HasSystem net link.high) (λ (link : Link). link.session ≡ false)
-    (λ link has. go link link.session refl has) net.links systems where
-      go : (link : Link) (b : Bool) → link.session ≡ b → (link.session ≡ true → HasSystem net link.low × HasSystem net link.high) → link.session ≡ false
+pub no_session : (net : NetValue) → SessionsHaveAsns net → first_speaker net ≡ None → HasNoSession net
+no_session net asns none =
+    All-weaker (λ (link : Link). link.session ≡ true → HasAsn net link.low × HasAsn net link.high) (λ (link : Link). link.session ≡ false)
+    (λ link has. go link link.session refl has) net.links asns where
+      go : (link : Link) (b : Bool) → link.session ≡ b → (link.session ≡ true → HasAsn net link.low × HasAsn net link.high) → link.session ≡ false
       go link false e has = e
       go link true e has = absurd (silent net link.low none (has e).0)

@@ -5,15 +5,15 @@ use Rattle.net_types.specs.declared.refusals.FormRefusal.{FormRefusal}
 use Rattle.net_types.specs.declared.network.Router.{Router}
 use Rattle.net_types.specs.NetValue.{NetValue}
 use Rattle.outside.specs.Content.{Content}
-use Rattle.route_desk.specs.declared.property.Property.{Property}
+use Rattle.property_book.specs.declared.property.Property.{Property}
 use Rattle.route_desk.specs.declared.check.Inputs.{Inputs}
-use Rattle.route_desk.specs.declared.verdict.Outcome.{Outcome}
-use Rattle.route_desk.specs.Book.{book_of}
+use Rattle.property_book.specs.declared.verdict.Outcome.{Outcome}
+use Rattle.property_book.specs.Book.{book_of}
 use Rattle.route_desk.specs.Folder.{bytes_of, folder_of}
 use Rattle.route_desk.specs.Refusals.{form_text, no_bgp_yet, refused_line}
-use Rattle.route_desk.specs.Report.{are_certified, report_of}
+use Rattle.report_text.specs.Report.{are_certified, report_of}
 use Rattle.route_desk.specs.Steps.{and_then, network_of}
-use Rattle.route_desk.specs.Verdicts.{IsOutcome}
+use Rattle.certify.specs.Verdicts.{IsOutcome}
 
 -- the router speaks BGP
 abbrev pub speaks_bgp : Router → Bool

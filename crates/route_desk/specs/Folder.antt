@@ -47,10 +47,12 @@ after_files before (Err line) = Err line
 -- the same, unless there are too many
 abbrev pub few_files_of : Content → Seq ℕ → Seq ℕ → Seq (Seq ℕ) → Result (Seq SourceFile) (Seq ℕ)
 few_files_of content side folder names =
-    if nat_lt 64 (length names) then Err (refused_line side (bundle_text [] (TooManyFiles (length names)))) else files_of content folder names
+    if nat_lt 64 (length names) then Err (refused_line side (bundle_text [] (TooManyFiles (length names))))
+    else files_of content folder names
 
 -- the configuration files of a side's folder, or the line of the first step that refuses: the folder is
 -- not there, it has too many of them, or one is not there
 unfoldable pub folder_of : Content → Seq ℕ → Seq ℕ → Result (Seq SourceFile) (Seq ℕ)
 folder_of content side folder =
-    if is_folder content folder then few_files_of content side folder (config_names (names_in content folder)) else Err (no_path_line folder)
+    if is_folder content folder then few_files_of content side folder (config_names (names_in content folder))
+    else Err (no_path_line folder)

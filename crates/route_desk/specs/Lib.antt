@@ -1,7 +1,3 @@
-pub mod Book
-pub mod Applicable
-pub mod Report
-pub mod Verdicts
 pub mod Refusals
 pub mod Folder
 pub mod Stops
@@ -11,8 +7,3 @@ pub mod Asked
 pub mod Ending
 pub mod StableEnding
 pub mod Running
-pub mod Forwarding
-pub mod ForwardingLaws
-pub mod QuietLaws
-pub mod VerdictLaws
-pub mod Meaning

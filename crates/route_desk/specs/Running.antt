@@ -78,7 +78,8 @@ IsBehind text given given_now = (before : Seq ℕ) → given ≡ Some before →
 
 -- a beginning of a text, and not all of it, is behind what the sink held before
 abbrev pub IsPartBehind : Seq ℕ → Option (Seq ℕ) → Option (Seq ℕ) → Type 0
-IsPartBehind text given given_now = (before : Seq ℕ) → given ≡ Some before → (k : ℕ) × (k < length text) × (given_now ≡ Some (before ++ take k text))
+IsPartBehind text given given_now = (before : Seq ℕ) → given ≡ Some before →
+    (k : ℕ) × (k < length text) × (given_now ≡ Some (before ++ take k text))
 
 -- a whole text was written, no call of the sink failed, and the status is this one
 pub record IsWhole (wanted : ℕ) (text : Seq ℕ) (faults faults_now : ℕ) (given given_now : Option (Seq ℕ)) (status : ℕ) : Type 0 where

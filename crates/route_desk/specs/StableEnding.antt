@@ -13,7 +13,7 @@ use Rattle.label_file.specs.File.{labels_of}
 use Rattle.route_desk.specs.declared.stable.Proposal.{Proposal}
 use Rattle.route_desk.specs.Folder.{bytes_of, folder_of}
 use Rattle.route_desk.specs.Refusals.{form_text, refused_line}
-use Rattle.route_desk.specs.Report.{host_of}
+use Rattle.report_text.specs.Report.{host_of}
 use Rattle.route_desk.specs.Steps.{and_then, network_of}
 
 -- the labels of a label file on a network

@@ -1,7 +1,7 @@
 //! The network of a folder's files, or the stop at its refusal.
 
 ghost use Rattle.std.specs.Prelude.{◌≡◌, IfOk, string_bytes};
-ghost use Rattle.topology.specs.Meaning.{SessionsHaveSystems};
+ghost use Rattle.topology.specs.Meaning.{SessionsHaveAsns};
 ghost use Rattle.route_desk.specs.Refusals.{bundle_text, refused_line};
 ghost use Rattle.route_desk.specs.Steps.{network_of};
 ghost use Rattle.route_desk.specs.Stops.{Gives, IsCalm, StopsAt};
@@ -38,7 +38,7 @@ fn bundle_refused(alloc: Global, side: &str, files: &[SourceFile], refusal: Bund
 #[tactic(auto, unfolding(crate::specs::Steps::network_of))]
 pub fn network_of(alloc: Global, side: &str, files: &[SourceFile]) -> Result<Net, Stop>
     ensures gives { Gives (network_of side.now files.now) result }
-    ensures sessions { IfOk result (λ net. SessionsHaveSystems net) }
+    ensures sessions { IfOk result (λ net. SessionsHaveAsns net) }
     ensures calm { IsCalm result }
 {
     match read_bundle(alloc, files) {

@@ -2,26 +2,25 @@
 
 ghost use Rattle.std.specs.Prelude.{◌≡◌, ◌≤◌, All, IfOk, Ok, Err, Some, codes, option_map, string_bytes, length};
 ghost use Rattle.net_types.specs.NetValue.{NetValue};
-ghost use Rattle.topology.specs.Meaning.{SessionsHaveSystems};
+ghost use Rattle.net_types.specs.Arcs.{HasNoSession};
+ghost use Rattle.topology.specs.Meaning.{SessionsHaveAsns};
 ghost use Rattle.outside.specs.Content.{Content};
-ghost use Rattle.route_desk.specs.Book.{IsAsked};
+ghost use Rattle.property_book.specs.Book.{IsAsked};
 ghost use Rattle.route_desk.specs.Ending.{IsReport, analysed, analysed_network, check_inputs, first_speaker, inputs_of, properties_of, speaks_bgp};
 ghost use Rattle.route_desk.specs.Refusals.{no_bgp_yet, refused_line};
 ghost use Rattle.route_desk.specs.Stops.{Comes, Gives, HasCause, IsCalm, StopsAt};
-ghost use Rattle.route_desk.specs.Verdicts.{HasNoSession};
 
 use crate::answer::Answer;
-use crate::book::read_properties;
 use crate::bundle::network_of;
 use crate::folder::{read_file, read_folder};
 use crate::form::form_refused;
-use crate::property::Property;
 use crate::refusal_texts::{no_bgp_yet, refused_line};
-use crate::report_text::{Side, are_certified, report};
 use crate::stop::Stop;
-use crate::verdicts::outcome_of;
+use certify::outcome_of;
 use net_types::{FormRefusal, List, Net, NoMemory, Router, SourceFile, Text};
 use outside::Shelf;
+use property_book::{Property, read_properties};
+use report_text::{Side, are_certified, report};
 use std::alloc::Global;
 
 /// What a check comes to: the two networks and the book that its report is of.
@@ -70,7 +69,7 @@ fn bgp_refused(alloc: Global, side: &str, host: &str) -> Stop
 
 // The network, unless a router of it speaks BGP.
 fn analysed(alloc: Global, side: &str, net: Net) -> Result<Net, Stop>
-    requires { SessionsHaveSystems net }
+    requires { SessionsHaveAsns net }
     ensures gives { Gives (analysed side.now net) result }
     ensures quiet { IfOk result (λ net. HasNoSession net) }
     ensures calm { IsCalm result }

@@ -3,12 +3,12 @@
 ghost use Rattle.std.specs.Prelude.{◌≡◌, ◌≤◌, ◌<◌, [], IfOk, OnOk, OnErr, Ok, Err, Some, None, codes, filter, length, map, nat_eq, string_bytes, true, ◌++◌, ◌∷◌};
 ghost use Rattle.std.specs.List.{ends_with, list_any, position_or_len};
 ghost use Rattle.net_types.specs.Order.{same_text, text_before};
+ghost use Rattle.net_types.specs.declared.refusals.BundleRefusal.TheVariants.{TooManyFiles};
 ghost use Rattle.topology.specs.Ascending.{put};
 ghost use Rattle.outside.specs.Content.{Content, names_in, path_of};
 ghost use Rattle.route_desk.specs.Folder.{bytes_of, config_names, few_files_of, files_of, folder_of, is_config};
 ghost use Rattle.route_desk.specs.Stops.{Gives, HasCause, StopsAt};
 ghost use Rattle.route_desk.specs.Refusals.{bundle_text, no_path_line, refused_line};
-ghost use Rattle.net_types.specs.declared.refusals.BundleRefusal.TheVariants.{TooManyFiles};
 
 use crate::refusal_texts::{bundle_text, no_path_line, refused_line};
 use crate::stop::Stop;

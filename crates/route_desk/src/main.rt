@@ -1,34 +1,25 @@
 //! The route desk: certifies changes of routing.
 //!
-//! Decides: what the program's words ask, what a property file says, which verdict a property has, and the
-//! bytes of the report, of what `stable` answers, and of each refusal.
-//! Stands on: `outside` for files and output, `topology` for networks, `ospf_paths` for distances,
-//! `concrete_algebra` for stability, `failure_sets` for what a certificate means, `label_file` and
-//! `toml_fields` for TOML files.
+//! Decides: what the program's words ask, in which order files are read and judged, that `check` refuses
+//! networks with BGP for now, the exit status, and the bytes of what `stable` answers and of each refusal.
+//! Stands on: `outside` for files and output, `topology` for networks, `property_book`, `certify` and
+//! `report_text` for `check`, `label_file`, `ospf_paths` and `concrete_algebra` for `stable`.
 //! Promises: the clauses of `run`. Not: anything of real files but the causes of its statuses.
 #![tactic(auto)]
 
 mod answer;
-mod applicable;
-mod book;
 mod bundle;
 mod check;
 mod command;
 mod folder;
 mod form;
-mod forwarding_laws;
-mod property;
 mod refusal_texts;
-mod report_text;
 mod run;
 mod stable;
 mod status;
 mod stop;
 #[cfg(test)]
 mod tests;
-mod verdict;
-mod verdict_laws;
-mod verdicts;
 
 use crate::run::run;
 use net_types::{NoMemory, Text};

@@ -14,13 +14,13 @@ use crate::answer::Answer;
 use crate::bundle::network_of;
 use crate::folder::{read_file, read_folder};
 use crate::form::form_refused;
-use crate::report_text::host_of;
 use crate::stop::Stop;
 use concrete_algebra::{StableAnswer, check_stable};
 use label_file::{Labels, read_labels};
 use net_types::{FailSet, FormRefusal, Net, NoMemory, Prefix, Route, SourceFile, Text};
 use ospf_paths::distances;
 use outside::Shelf;
+use report_text::host_of;
 use std::alloc::Global;
 
 /// A network, and the labels that are proposed for it.

@@ -11,7 +11,6 @@ mod labellings;
 mod limits;
 mod memory;
 mod networks;
-mod properties;
 mod refusals;
 mod reports;
 mod stability;

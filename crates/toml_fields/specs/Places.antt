@@ -25,4 +25,5 @@ pub record IsFirstBad {A : Type 0} (read : Members → Option A) (items : Items)
 abbrev pub RowsByPlace : {A : Type 0} → (Members → Option A) → Type 0
 RowsByPlace {A} read =
     ((items : Items) (rows : Seq A) → rows_from read 1 items ≡ Ok rows → (k : ℕ) → slice_get rows k ≡ row_at read items k) ×
-    ((items : Items) (refusal : FormRefusal) → rows_from read 1 items ≡ Err refusal → (k : ℕ) × (refusal ≡ BadField (k + 1)) × IsFirstBad read items k)
+    ((items : Items) (refusal : FormRefusal) → rows_from read 1 items ≡ Err refusal →
+    (k : ℕ) × (refusal ≡ BadField (k + 1)) × IsFirstBad read items k)

@@ -14,6 +14,9 @@ use Rattle.net_types.specs.NetValue.{NetValue}
 use Rattle.net_types.specs.declared.config.RouterConfig.{RouterConfig}
 use Rattle.net_types.specs.declared.network.Router.{Router}
 use Rattle.net_types.specs.declared.network.Owned.{Owned}
+use Rattle.net_types.specs.NetFacts.{no_export, no_advertise}
+use Rattle.net_types.specs.declared.refusals.NetRefusal.{NetRefusal}
+use Rattle.net_types.specs.ConfigFacts.{IsConfig}
 use Rattle.topology.specs.declared.interfaces.Port.{Port}
 use Rattle.topology.specs.declared.groups.Group.TheVariants.{Joined, Shared}
 use Rattle.topology.specs.declared.groups.Wire.{Wire}
@@ -24,18 +27,15 @@ use Rattle.topology.specs.Owning.{stubs, stub_cost, lesser, least_cost, has_stub
 use Rattle.topology.specs.Communities.{communities, named_values}
 use Rattle.topology.specs.Links.{link_of, links_of}
 use Rattle.topology.specs.Routers.{router_of, routers_from}
-use Rattle.net_types.specs.NetFacts.{no_export, no_advertise}
-use Rattle.net_types.specs.declared.refusals.NetRefusal.{NetRefusal}
 use Rattle.topology.specs.Network.{Answers, unless, net_of}
-use Rattle.topology.specs.Meaning.{AreLinked, IsLinkOf, RunsOspfAt, IsLeastCost, AreOwned, IsRouterOf, IsNetworkOf, SessionsHaveSystems}
+use Rattle.topology.specs.Meaning.{AreLinked, IsLinkOf, RunsOspfAt, IsLeastCost, AreOwned, IsRouterOf, IsNetworkOf, SessionsHaveAsns}
 use Rattle.topology.proofs.MapLemmas.{list_any-map, put-there, put-new}
 use Rattle.topology.proofs.RisingLemmas.{AllByRecursion-weaker, All-filter_map, All-map, every}
 use Rattle.topology.proofs.OrderLaws.{prefix_order, text_order, number_order, number-equal}
 use Rattle.topology.proofs.LinkLemmas.{subnets-links_of, subnet-link_of}
 use Rattle.topology.proofs.RouterLemmas.{router-at}
 use Rattle.topology.proofs.SideLemmas.{at-place}
-use Rattle.topology.proofs.SessionLemmas.{sessions-links_of, sides-links_of, SessionsHaveSystems-net_of}
-use Rattle.net_types.specs.ConfigFacts.{IsConfig}
+use Rattle.topology.proofs.SessionLemmas.{sessions-links_of, sides-links_of, SessionsHaveAsns-net_of}
 use Rattle.topology.proofs.ResolvedLemmas.{IsRedistribution-connected, IsRedistribution-ospf, community_lists-alike, maps-alike}
 use Rattle.topology.proofs.NetLemmas.{configs-are}
 use Rattle.topology.proofs.IdleLemmas.{AreNotices-notices}
@@ -281,5 +281,5 @@ of-answer configs P tried (Ok net) h e = subst P (value tried e) h where
 pub IsNetworkOf-answer : (configs : List RouterConfig) → All IsConfig configs → (tried : List (Option NetRefusal)) (answer : Result NetValue NetRefusal) → Answers (unless tried (net_of configs)) answer → IfOk answer (λ net. IsNetworkOf configs net)
 IsNetworkOf-answer configs all tried answer e = of-answer configs (λ net. IsNetworkOf configs net) tried answer (IsNetworkOf-net_of configs all) e
 
-pub SessionsHaveSystems-answer : (configs : List RouterConfig) (tried : List (Option NetRefusal)) (answer : Result NetValue NetRefusal) → Answers (unless tried (net_of configs)) answer → IfOk answer (λ net. SessionsHaveSystems net)
-SessionsHaveSystems-answer configs tried answer e = of-answer configs (λ net. SessionsHaveSystems net) tried answer (SessionsHaveSystems-net_of configs) e
+pub SessionsHaveAsns-answer : (configs : List RouterConfig) (tried : List (Option NetRefusal)) (answer : Result NetValue NetRefusal) → Answers (unless tried (net_of configs)) answer → IfOk answer (λ net. SessionsHaveAsns net)
+SessionsHaveAsns-answer configs tried answer e = of-answer configs (λ net. SessionsHaveAsns net) tried answer (SessionsHaveAsns-net_of configs) e

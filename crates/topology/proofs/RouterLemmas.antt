@@ -17,7 +17,7 @@ use Rattle.net_types.specs.declared.config.BgpConfig.{BgpConfig}
 use Rattle.net_types.specs.declared.network.Router.{Router}
 use Rattle.net_types.specs.declared.network.Owned.{Owned}
 use Rattle.topology.specs.declared.interfaces.Port.{Port}
-use Rattle.topology.specs.Live.{host_before, same_number, same_system}
+use Rattle.topology.specs.Live.{host_before, same_number, same_asn}
 use Rattle.topology.specs.Owning.{is_stub, stubs, stub_cost, lesser, owned_of, prefixes_of, owned_by, networks_of}
 use Rattle.topology.specs.Resolving.{net_map}
 use Rattle.topology.specs.Routers.{router_of, routers_from}
@@ -129,7 +129,7 @@ apart-numbers (Some m) (Some n) h = λ e. false≢true (unequal m n e h) where
   unequal : (m n : ℕ) → m ≡ n → not (m == n) ≡ true → false ≡ true
   unequal m n e h = grind (arith, nat_tests)
 
-pub systems-routers_from : (ports : List Port) (communities : List ℕ) (configs : List RouterConfig) → Rises (λ a b. not (same_system a b)) configs → AllPairs (λ (a b : Router). AreApart a.asn b.asn) (routers_from ports communities 0 configs)
-systems-routers_from ports communities configs r =
-    let rises = Rises-routers_from (λ a b. not (same_system a b)) (λ (a b : Router). not (same_number a.asn b.asn)) ports communities (λ m n a b e. e) 0 configs r in
+pub asns-routers_from : (ports : List Port) (communities : List ℕ) (configs : List RouterConfig) → Rises (λ a b. not (same_asn a b)) configs → AllPairs (λ (a b : Router). AreApart a.asn b.asn) (routers_from ports communities 0 configs)
+asns-routers_from ports communities configs r =
+    let rises = Rises-routers_from (λ a b. not (same_asn a b)) (λ (a b : Router). not (same_number a.asn b.asn)) ports communities (λ m n a b e. e) 0 configs r in
     λ i j d l h. apart-numbers _ _ (AllPairs-from_rises (λ (a b : Router). not (same_number a.asn b.asn)) (routers_from ports communities 0 configs) rises i j d l h)

@@ -20,7 +20,7 @@ use Rattle.topology.specs.Sessions.{is_for, side_by, side_for, asn_at, side_at, 
 use Rattle.topology.specs.Links.{end_of, joined_by, link_of, links_of}
 use Rattle.topology.specs.Routers.{router_of}
 use Rattle.topology.specs.Network.{net_of}
-use Rattle.topology.specs.Meaning.{HasLineFor, IsSessionByLines, HasPolicies, IsClosed, HasSides, HasSystem, SessionsHaveSystems}
+use Rattle.topology.specs.Meaning.{HasLineFor, IsSessionByLines, HasPolicies, IsClosed, HasSides, HasAsn, SessionsHaveAsns}
 use Rattle.topology.proofs.RisingLemmas.{AllByRecursion-weaker, All-map, every}
 use Rattle.topology.proofs.MemberLemmas.{Contains-from_In, In-from_Contains, from-find, find-some}
 use Rattle.topology.proofs.RouterLemmas.{router-at}
@@ -125,21 +125,21 @@ sides-links_of configs wires =
     (AllByRecursion-weaker (λ _. Unit {0}) (λ wire. HasSides configs (link_of configs wire)) (λ wire _. HasSides-link_of configs wire) wires (every wires)))
 
 -- a router with a neighbor line has an AS number
-HasSystem-from_line : (configs : List RouterConfig) (here there : End) → HasLineFor (in_order configs) here there → HasSystem (net_of configs) here
-HasSystem-from_line configs here there h = record {
+HasAsn-from_line : (configs : List RouterConfig) (here there : End) → HasLineFor (in_order configs) here there → HasAsn (net_of configs) here
+HasAsn-from_line configs here there h = record {
   router = router_of (ports configs) (communities configs) (0 + here.router) h.config;
   there = router-at (ports configs) (communities configs) 0 (in_order configs) here.router ∙ ap (λ o. option_map (λ config. router_of (ports configs) (communities configs) (0 + here.router) config) o) h.config_at;
   asn = h.bgp.asn;
   has = ap (λ o. option_map (λ (bgp : BgpConfig). bgp.asn) o) h.runs;
 }
 
-abbrev HaveSystems : List RouterConfig → Link → Type 0
-HaveSystems configs link = link.session ≡ true → HasSystem (net_of configs) link.low × HasSystem (net_of configs) link.high
+abbrev HaveAsns : List RouterConfig → Link → Type 0
+HaveAsns configs link = link.session ≡ true → HasAsn (net_of configs) link.low × HasAsn (net_of configs) link.high
 
-pub SessionsHaveSystems-net_of : (configs : List RouterConfig) → SessionsHaveSystems (net_of configs)
-SessionsHaveSystems-net_of configs =
+pub SessionsHaveAsns-net_of : (configs : List RouterConfig) → SessionsHaveAsns (net_of configs)
+SessionsHaveAsns-net_of configs =
     let links = links_of (in_order configs) (wires (ports configs)) in
-    All-from_recursion (HaveSystems configs) links
-    (AllByRecursion-weaker (IsSessionByLines (in_order configs)) (HaveSystems configs)
-    (λ link s h. let lines = s.0 h in (HasSystem-from_line configs link.low link.high lines.0, HasSystem-from_line configs link.high link.low lines.1))
+    All-from_recursion (HaveAsns configs) links
+    (AllByRecursion-weaker (IsSessionByLines (in_order configs)) (HaveAsns configs)
+    (λ link s h. let lines = s.0 h in (HasAsn-from_line configs link.low link.high lines.0, HasAsn-from_line configs link.high link.low lines.1))
     links (recursion_from_All (IsSessionByLines (in_order configs)) links (sessions-links_of (in_order configs) (wires (ports configs)))))

@@ -10,6 +10,7 @@ use Rattle.std.proofs.Math.Pow.{pow-lt}
 use Rattle.std.proofs.lemmas.Nat.{or_lt}
 use Rattle.std.proofs.lemmas.Nat.Bits.{bit_at-pow_other, bit_at-pow_same, bit_at-zero}
 use Rattle.net_types.specs.Sets.{has}
+use Rattle.net_types.specs.Numbering.{community_among}
 use Rattle.net_types.specs.NetFacts.{IsMask, no_export, no_advertise}
 use Rattle.net_types.specs.ConfigFacts.{IsConfig, IsCommunityList, IsCommunityEntry, IsMap, IsMapEntry, IsSetCommunity}
 use Rattle.net_types.specs.declared.config.RouterConfig.{RouterConfig}
@@ -20,7 +21,7 @@ use Rattle.net_types.specs.declared.config.MapEntry.{MapEntry}
 use Rattle.net_types.specs.declared.config.SetCommunity.{SetCommunity}
 use Rattle.net_types.specs.declared.config.SetCommunity.TheVariants.{Keep, Replace, Add, Clear}
 use Rattle.net_types.proofs.SetLemmas.{has_union}
-use Rattle.topology.specs.Communities.{set_values, list_values, map_values, config_values, named_values, communities, number_of, with_number, with_community, set_of, IsSetOf}
+use Rattle.topology.specs.Communities.{set_values, list_values, map_values, config_values, named_values, communities, with_number, with_community, set_of, IsSetOf}
 use Rattle.topology.proofs.RisingLemmas.{All-append, All-flat_map, All-ascending, Rises-ascending, AllPairs-from_rises}
 use Rattle.topology.proofs.OrderLaws.{number_order, number-equal}
 use Rattle.topology.proofs.MemberLemmas.{In, In-ascending, Contains-from_In, In-from_Contains}
@@ -91,8 +92,8 @@ IsMask-more count set n few m h = record {
 
 IsMask-with_community : (all : List ℕ) (set value : ℕ) → length all ≤ 64 → IsMask (length all) set → IsMask (length all) (with_community all set value)
 unfolding with_community
-IsMask-with_community all set value few m = go (number_of all value) refl where
-  go : (o : Option ℕ) → number_of all value ≡ o → IsMask (length all) (with_number set o)
+IsMask-with_community all set value few m = go (community_among all value) refl where
+  go : (o : Option ℕ) → community_among all value ≡ o → IsMask (length all) (with_number set o)
   go None e = m
   go (Some n) e = IsMask-more (length all) set n few m (position-Some (λ c. c == value) all n 0 e).0
 
@@ -126,18 +127,18 @@ or-right false b e = e
 
 -- n is in the set, or is the number of the community
 abbrev IsMore : List ℕ → ℕ → ℕ → ℕ → Type 0
-IsMore all set value n = (has set n ≡ true) ⊎ (number_of all value ≡ Some n)
+IsMore all set value n = (has set n ≡ true) ⊎ (community_among all value ≡ Some n)
 
 one-more : (all : List ℕ) (set value n : ℕ) → (has (with_community all set value) n ≡ true) ↔ IsMore all set value n
 unfolding with_community
-one-more all set value n = go (number_of all value) refl where
+one-more all set value n = go (community_among all value) refl where
   none : (m : ℕ) → None ≡ Some m → false ≡ true
   none m e = cc
 
   same : (k m : ℕ) → Some k ≡ Some m → k ≡ m
   same k m e = cc
 
-  go : (o : Option ℕ) → number_of all value ≡ o → (has (with_number set o) n ≡ true) ↔ ((has set n ≡ true) ⊎ (o ≡ Some n))
+  go : (o : Option ℕ) → community_among all value ≡ o → (has (with_number set o) n ≡ true) ↔ ((has set n ≡ true) ⊎ (o ≡ Some n))
   go None e = ((λ h. inl h), (λ h. ⊎_elim (λ g. g) (λ g. absurd (false≢true (none n g))) h))
   go (Some m) e = (
     (λ h. ⊎_elim (λ g. inl g) (λ g. inr (ap (λ k. Some k) (sym (only-itself m n g)))) (either (has set n) (has (2 ^ m) n) (sym (has_union set (2 ^ m) n) ∙ h))),
@@ -145,7 +146,7 @@ one-more all set value n = go (number_of all value) refl where
   )
 
 abbrev HasNumber : List ℕ → List ℕ → ℕ → Type 0
-HasNumber all values n = (value : ℕ) × In value values × (number_of all value ≡ Some n)
+HasNumber all values n = (value : ℕ) × In value values × (community_among all value ≡ Some n)
 
 -- what is in the set after some communities
 abbrev rest_of : List ℕ → ℕ → List ℕ → ℕ
@@ -160,7 +161,7 @@ fold-step all v vs set n later = (there, back) where
   there h = ⊎_elim (λ g. ⊎_elim (λ k. inl k) (λ k. inr (v, inl refl, k)) ((one-more all set v n).0 g)) (λ g. inr (g.0, inr g.1, g.2)) (later.0 h)
 
   back : (has set n ≡ true) ⊎ HasNumber all (v ∷ vs) n → has (rest_of all (with_community all set v) vs) n ≡ true
-  back h = later.1 (⊎_elim (λ g. inl ((one-more all set v n).1 (inl g))) (λ w. ⊎_elim (λ e. inl ((one-more all set v n).1 (inr (ap (λ x. number_of all x) e ∙ w.2)))) (λ i. inr (w.0, i, w.2)) w.1) h)
+  back h = later.1 (⊎_elim (λ g. inl ((one-more all set v n).1 (inl g))) (λ w. ⊎_elim (λ e. inl ((one-more all set v n).1 (inr (ap (λ x. community_among all x) e ∙ w.2)))) (λ i. inr (w.0, i, w.2)) w.1) h)
 
 fold-of : (all values : List ℕ) (set n : ℕ) → IsRest all values set n
 fold-of all [] set n = ((λ h. inl h), (λ h. ⊎_elim (λ g. g) (λ g. absurd g.1) h))

@@ -13,15 +13,15 @@ use Rattle.net_types.specs.declared.config.RouterConfig.{RouterConfig}
 use Rattle.net_types.specs.declared.config.Interface.{Interface}
 use Rattle.net_types.specs.declared.refusals.NetRefusal.{NetRefusal}
 use Rattle.net_types.specs.declared.refusals.NetRefusal.TheVariants.{SameHost, SameAs, SameAddress, SharedSubnet, TooManyLinks, TooManyCommunities, TooManyRouters, NoMemory}
-use Rattle.topology.specs.Pairs.{any_pair}
-use Rattle.topology.specs.Live.{same_host, same_number, same_system, asn_of, share_address, link_address, has_address_twice, meet_at_address}
 use Rattle.net_types.specs.NetValue.{NetValue}
 use Rattle.net_types.specs.PrefixValue.{PrefixValue}
+use Rattle.topology.specs.Pairs.{any_pair}
+use Rattle.topology.specs.Live.{same_host, same_number, same_asn, asn_of, share_address, link_address, has_address_twice, meet_at_address}
 use Rattle.topology.specs.Live.{ports}
 use Rattle.topology.specs.Groups.{wires, shared_subnet}
 use Rattle.topology.specs.Communities.{communities}
-use Rattle.topology.specs.Network.{Answers, unless, whole_refusals, net_of, host_pair, system_pair, address_pair}
-use Rattle.topology.specs.Meaning.{HaveOneHost, HaveOneSystem, HaveOneAddress, IsLeastPair, NoPair, NoneMeet, NamesLeastPair}
+use Rattle.topology.specs.Network.{Answers, unless, whole_refusals, net_of, host_pair, asn_pair, address_pair}
+use Rattle.topology.specs.Meaning.{HaveOneHost, HaveOneAsn, HaveOneAddress, IsLeastPair, NoPair, NoneMeet, NamesLeastPair}
 use Rattle.topology.proofs.PairLemmas.{Meet, IsPair, IsPair-least_pair}
 
 pub same_text-equal : (xs ys : List ℕ) → pointwise nat_eq xs ys ≡ true → xs ≡ ys
@@ -62,13 +62,13 @@ number-one : (a b : Option ℕ) (n : ℕ) → a ≡ Some n → b ≡ Some n → 
 number-one a b n e f = rw (e, f) (let same : (n == n) ≡ true = grind (arith, nat_tests) in same)
 
 -- AS numbers
-system-from_meet : (configs : List RouterConfig) (i j : ℕ) → Meet (λ _. false) same_system configs i j → HaveOneSystem configs i j
-system-from_meet configs i j m = ⊎_elim
+asn-from_meet : (configs : List RouterConfig) (i j : ℕ) → Meet (λ _. false) same_asn configs i j → HaveOneAsn configs i j
+asn-from_meet configs i j m = ⊎_elim
     (λ h. let n = one_number (asn_of m.x) (asn_of m.y) h.1 in record { first = m.x; second = m.y; first_at = m.x_at; second_at = m.y_at; order = h.0; asn = n.0; first_has = n.1; second_has = n.2 })
     (λ h. absurd (false≢true h.1)) m.how
 
-meet-from_system : (configs : List RouterConfig) (i j : ℕ) → HaveOneSystem configs i j → Meet (λ _. false) same_system configs i j
-meet-from_system configs i j m = record {
+meet-from_asn : (configs : List RouterConfig) (i j : ℕ) → HaveOneAsn configs i j → Meet (λ _. false) same_asn configs i j
+meet-from_asn configs i j m = record {
   x = m.first;
   y = m.second;
   x_at = m.first_at;
@@ -192,11 +192,11 @@ least-host_pair configs = go (host_pair configs) (IsPair-least_pair (λ _. false
   go None p = λ i j m. p i j (meet-from_host configs i j m)
   go (Some q) p = carried (Meet (λ _. false) same_host configs) (HaveOneHost configs) (host-from_meet configs) (meet-from_host configs) q.0 q.1 p.0 p.1 p.2 p.3 p.4
 
-pub least-system_pair : (configs : List RouterConfig) → MatchOption (system_pair configs) (NoPair (HaveOneSystem configs)) (λ p. IsLeastPair (HaveOneSystem configs) p.0 p.1)
-least-system_pair configs = go (system_pair configs) (IsPair-least_pair (λ _. false) same_system 0 configs) where
-  go : (found : Option (ℕ × ℕ)) → IsPair (λ _. false) same_system 0 configs found → MatchOption found (NoPair (HaveOneSystem configs)) (λ p. IsLeastPair (HaveOneSystem configs) p.0 p.1)
-  go None p = λ i j m. p i j (meet-from_system configs i j m)
-  go (Some q) p = carried (Meet (λ _. false) same_system configs) (HaveOneSystem configs) (system-from_meet configs) (meet-from_system configs) q.0 q.1 p.0 p.1 p.2 p.3 p.4
+pub least-asn_pair : (configs : List RouterConfig) → MatchOption (asn_pair configs) (NoPair (HaveOneAsn configs)) (λ p. IsLeastPair (HaveOneAsn configs) p.0 p.1)
+least-asn_pair configs = go (asn_pair configs) (IsPair-least_pair (λ _. false) same_asn 0 configs) where
+  go : (found : Option (ℕ × ℕ)) → IsPair (λ _. false) same_asn 0 configs found → MatchOption found (NoPair (HaveOneAsn configs)) (λ p. IsLeastPair (HaveOneAsn configs) p.0 p.1)
+  go None p = λ i j m. p i j (meet-from_asn configs i j m)
+  go (Some q) p = carried (Meet (λ _. false) same_asn configs) (HaveOneAsn configs) (asn-from_meet configs) (meet-from_asn configs) q.0 q.1 p.0 p.1 p.2 p.3 p.4
 
 pub least-address_pair : (configs : List RouterConfig) → MatchOption (address_pair configs) (NoPair (HaveOneAddress configs)) (λ p. IsLeastPair (HaveOneAddress configs) p.0 p.1)
 least-address_pair configs = go (address_pair configs) (IsPair-least_pair has_address_twice meet_at_address 0 configs) where
@@ -241,16 +241,16 @@ pub no-host : (configs : List RouterConfig) (found : Option (ℕ × ℕ)) → fo
 no-host configs None e n = let P : Option (ℕ × ℕ) → Type 0 = λ o. MatchOption o (NoPair (HaveOneHost configs)) (λ p. IsLeastPair (HaveOneHost configs) p.0 p.1) in subst P (sym e) (least-host_pair configs)
 no-host configs (Some p) e n = absurd (n p refl)
 
-pub named-system : (configs : List RouterConfig) (found : Option (ℕ × ℕ)) (i j : ℕ) → found ≡ system_pair configs → found ≡ Some (i, j) → IsLeastPair (HaveOneSystem configs) i j
-named-system configs found i j e f = let P : Option (ℕ × ℕ) → Type 0 = λ o. MatchOption o (NoPair (HaveOneSystem configs)) (λ p. IsLeastPair (HaveOneSystem configs) p.0 p.1) in subst P (sym e ∙ f) (least-system_pair configs)
+pub named-asn : (configs : List RouterConfig) (found : Option (ℕ × ℕ)) (i j : ℕ) → found ≡ asn_pair configs → found ≡ Some (i, j) → IsLeastPair (HaveOneAsn configs) i j
+named-asn configs found i j e f = let P : Option (ℕ × ℕ) → Type 0 = λ o. MatchOption o (NoPair (HaveOneAsn configs)) (λ p. IsLeastPair (HaveOneAsn configs) p.0 p.1) in subst P (sym e ∙ f) (least-asn_pair configs)
 
-pub no-system : (configs : List RouterConfig) (found : Option (ℕ × ℕ)) → found ≡ system_pair configs → ((p : ℕ × ℕ) → found ≡ Some p → ⊥) → NoPair (HaveOneSystem configs)
-no-system configs None e n = let P : Option (ℕ × ℕ) → Type 0 = λ o. MatchOption o (NoPair (HaveOneSystem configs)) (λ p. IsLeastPair (HaveOneSystem configs) p.0 p.1) in subst P (sym e) (least-system_pair configs)
-no-system configs (Some p) e n = absurd (n p refl)
+pub no-asn : (configs : List RouterConfig) (found : Option (ℕ × ℕ)) → found ≡ asn_pair configs → ((p : ℕ × ℕ) → found ≡ Some p → ⊥) → NoPair (HaveOneAsn configs)
+no-asn configs None e n = let P : Option (ℕ × ℕ) → Type 0 = λ o. MatchOption o (NoPair (HaveOneAsn configs)) (λ p. IsLeastPair (HaveOneAsn configs) p.0 p.1) in subst P (sym e) (least-asn_pair configs)
+no-asn configs (Some p) e n = absurd (n p refl)
 
-pub none-system : (configs : List RouterConfig) (found : Option (ℕ × ℕ)) → found ≡ system_pair configs → ((p : ℕ × ℕ) → found ≡ Some p → ⊥) → system_pair configs ≡ None
-none-system configs None e n = sym e
-none-system configs (Some p) e n = absurd (n p refl)
+pub none-asn : (configs : List RouterConfig) (found : Option (ℕ × ℕ)) → found ≡ asn_pair configs → ((p : ℕ × ℕ) → found ≡ Some p → ⊥) → asn_pair configs ≡ None
+none-asn configs None e n = sym e
+none-asn configs (Some p) e n = absurd (n p refl)
 
 pub named-address : (configs : List RouterConfig) (found : Option (ℕ × ℕ)) (i j : ℕ) → found ≡ address_pair configs → found ≡ Some (i, j) → IsLeastPair (HaveOneAddress configs) i j
 named-address configs found i j e f = let P : Option (ℕ × ℕ) → Type 0 = λ o. MatchOption o (NoPair (HaveOneAddress configs)) (λ p. IsLeastPair (HaveOneAddress configs) p.0 p.1) in subst P (sym e ∙ f) (least-address_pair configs)

@@ -25,7 +25,8 @@ abbrev pub named : ℕ → ℕ
 named n = min n (2 ^ 64 - 1)
 
 -- the configurations of a file and of those behind it
-abbrev pub before : ℕ → Result RouterConfig ReadRefusal → Result (List RouterConfig) BundleRefusal → Result (List RouterConfig) BundleRefusal
+abbrev pub before : ℕ → Result RouterConfig ReadRefusal → Result (List RouterConfig) BundleRefusal →
+    Result (List RouterConfig) BundleRefusal
 before at (Err refusal) later = Err (InFile at refusal)
 before at (Ok config) (Ok configs) = Ok (config ∷ configs)
 before at (Ok config) (Err refusal) = Err refusal

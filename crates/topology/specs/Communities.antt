@@ -1,5 +1,5 @@
 -- The communities of a bundle, and sets of them by their numbers.
-use Rattle.std.specs.Prelude.{ℕ, ◌≡◌, ◌↔◌, ◌==◌, ◌++◌, ◌^◌, nat_eq, nat_lt, bit_or, true, List, [], ◌∷◌, Contains, Option, Some, None, fold, position}
+use Rattle.std.specs.Prelude.{ℕ, ◌≡◌, ◌↔◌, ◌++◌, ◌^◌, nat_eq, nat_lt, bit_or, true, List, [], ◌∷◌, Contains, Option, Some, None, fold}
 use Rattle.std.specs.List.{flat_map}
 use Rattle.net_types.specs.declared.config.RouterConfig.{RouterConfig}
 use Rattle.net_types.specs.declared.config.CommunityList.{CommunityList}
@@ -9,6 +9,7 @@ use Rattle.net_types.specs.declared.config.MapEntry.{MapEntry}
 use Rattle.net_types.specs.declared.config.SetCommunity.{SetCommunity}
 use Rattle.net_types.specs.declared.config.SetCommunity.TheVariants.{Keep, Replace, Add, Clear}
 use Rattle.net_types.specs.NetFacts.{no_export, no_advertise}
+use Rattle.net_types.specs.Numbering.{community_among}
 use Rattle.net_types.specs.Sets.{has}
 use Rattle.topology.specs.Ascending.{ascending}
 
@@ -29,7 +30,8 @@ map_values routes = flat_map (λ (entry : MapEntry). set_values entry.sets.commu
 
 -- the communities that a configuration names, in use or not
 abbrev pub config_values : RouterConfig → List ℕ
-config_values config = flat_map (λ communities. list_values communities) config.community_lists ++ flat_map (λ routes. map_values routes) config.maps
+config_values config = flat_map (λ communities. list_values communities) config.community_lists ++
+    flat_map (λ routes. map_values routes) config.maps
 
 -- the communities that the configurations name
 abbrev pub named_values : List RouterConfig → List ℕ
@@ -44,17 +46,14 @@ ascending_numbers numbers = ascending nat_eq nat_lt numbers
 abbrev pub communities : List RouterConfig → List ℕ
 communities configs = ascending_numbers (no_export ∷ no_advertise ∷ named_values configs)
 
--- the number of a community
-abbrev pub number_of : List ℕ → ℕ → Option ℕ
-number_of all value = position (λ c. c == value) all
-
+-- the set with this number, if there is one
 abbrev pub with_number : ℕ → Option ℕ → ℕ
 with_number set None = set
 with_number set (Some n) = bit_or set (2 ^ n)
 
 -- the set with the number of one more community
 unfoldable pub with_community : List ℕ → ℕ → ℕ → ℕ
-with_community all set value = with_number set (number_of all value)
+with_community all set value = with_number set (community_among all value)
 
 -- the set of the numbers of these communities
 abbrev pub set_of : List ℕ → List ℕ → ℕ
@@ -62,4 +61,4 @@ set_of all values = fold (λ set value. with_community all set value) 0 values
 
 -- the numbers of these communities: n is in the set exactly where it is the number of one of them
 abbrev pub IsSetOf : List ℕ → List ℕ → ℕ → Type 0
-IsSetOf all values set = (n : ℕ) → (has set n ≡ true) ↔ ((value : ℕ) × Contains values value × (number_of all value ≡ Some n))
+IsSetOf all values set = (n : ℕ) → (has set n ≡ true) ↔ ((value : ℕ) × Contains values value × (community_among all value ≡ Some n))

@@ -23,7 +23,8 @@ pub record IsFirstRefused (files : List SourceFile) (at : ℕ) (refusal : ReadRe
   pub file : SourceFile
   pub there : slice_get files at ≡ Some file
   pub refused : reading file.text ≡ Err refusal
-  pub before : (k : ℕ) (other : SourceFile) → k < at → slice_get files k ≡ Some other → (config : RouterConfig) × (reading other.text ≡ Ok config)
+  pub before : (k : ℕ) (other : SourceFile) → k < at → slice_get files k ≡ Some other →
+      (config : RouterConfig) × (reading other.text ≡ Ok config)
   pub cause : refusal ≢ NoMemoryInFile
 
 -- the configurations make no network for this cause, which is not want of memory

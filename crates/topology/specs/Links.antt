@@ -14,8 +14,20 @@ end_of port side = record { router = port.router; address = port.address; cost =
 -- a link is an adjacency where both ends run OSPF, and a session where each end's router has a neighbor
 -- line for the other
 abbrev pub joined_by : Wire → Option Side → Option Side → Link
-joined_by wire (Some low) (Some high) = record { subnet = wire.subnet; low = end_of wire.low low; high = end_of wire.high high; session = true; adjacency = wire.low.ospf && wire.high.ospf }
-joined_by wire _ _ = record { subnet = wire.subnet; low = end_of wire.low no_side; high = end_of wire.high no_side; session = false; adjacency = wire.low.ospf && wire.high.ospf }
+joined_by wire (Some low) (Some high) = record {
+  subnet = wire.subnet;
+  low = end_of wire.low low;
+  high = end_of wire.high high;
+  session = true;
+  adjacency = wire.low.ospf && wire.high.ospf;
+}
+joined_by wire _ _ = record {
+  subnet = wire.subnet;
+  low = end_of wire.low no_side;
+  high = end_of wire.high no_side;
+  session = false;
+  adjacency = wire.low.ospf && wire.high.ospf;
+}
 
 -- the link of two interfaces; the configurations are in order of the router numbers
 abbrev pub link_of : List RouterConfig → Wire → Link

@@ -88,5 +88,5 @@ abbrev pub asn_of : RouterConfig → Option ℕ
 asn_of config = option_map (λ (bgp : BgpConfig). bgp.asn) config.bgp
 
 -- two configurations have one AS number
-abbrev pub same_system : RouterConfig → RouterConfig → Bool
-same_system a b = same_number (asn_of a) (asn_of b)
+abbrev pub same_asn : RouterConfig → RouterConfig → Bool
+same_asn a b = same_number (asn_of a) (asn_of b)

@@ -38,7 +38,7 @@ pub record HaveOneHost (configs : List RouterConfig) (i j : ℕ) : Type 0 where
   pub host : first.host ≡ second.host
 
 -- the positions i and j of two configurations, i before j, that have one AS number
-pub record HaveOneSystem (configs : List RouterConfig) (i j : ℕ) : Type 0 where
+pub record HaveOneAsn (configs : List RouterConfig) (i j : ℕ) : Type 0 where
   pub first : RouterConfig
   pub second : RouterConfig
   pub first_at : slice_get configs i ≡ Some first
@@ -86,7 +86,7 @@ NoPair Meet = (i j : ℕ) → Meet i j → ⊥
 -- no pair of positions has one host, one AS number or one address
 pub record NoneMeet (configs : List RouterConfig) : Type 0 where
   pub hosts : NoPair (HaveOneHost configs)
-  pub systems : NoPair (HaveOneSystem configs)
+  pub asns : NoPair (HaveOneAsn configs)
   pub addresses : NoPair (HaveOneAddress configs)
 
 -- a refusal for a pair names the least, hosts being tried first, then AS numbers, then addresses; any other
@@ -94,8 +94,9 @@ pub record NoneMeet (configs : List RouterConfig) : Type 0 where
 abbrev pub NamesLeastPair : {A : Type 0} → List RouterConfig → Result A NetRefusal → Type 0
 NamesLeastPair configs (Err NoMemory) = Unit {0}
 NamesLeastPair configs (Err (SameHost i j)) = IsLeastPair (HaveOneHost configs) i j
-NamesLeastPair configs (Err (SameAs i j)) = NoPair (HaveOneHost configs) × IsLeastPair (HaveOneSystem configs) i j
-NamesLeastPair configs (Err (SameAddress i j)) = NoPair (HaveOneHost configs) × NoPair (HaveOneSystem configs) × IsLeastPair (HaveOneAddress configs) i j
+NamesLeastPair configs (Err (SameAs i j)) = NoPair (HaveOneHost configs) × IsLeastPair (HaveOneAsn configs) i j
+NamesLeastPair configs (Err (SameAddress i j)) = NoPair (HaveOneHost configs) × NoPair (HaveOneAsn configs) ×
+    IsLeastPair (HaveOneAddress configs) i j
 NamesLeastPair configs _ = NoneMeet configs
 
 -- ys holds what xs holds, each once, in ascending order
@@ -120,7 +121,8 @@ pub record IsLinkOf (configs : List RouterConfig) (ports : List Port) (link : Li
 pub record AreLinks (configs : List RouterConfig) (ports : List Port) (links : List Link) : Type 0 where
   pub rise : AllPairs (λ (a b : Link). prefix_before a.subnet b.subnet ≡ true) links
   pub each : All (IsLinkOf configs ports) links
-  pub complete : (subnet : PrefixValue) (low high : Port) → AreLinked ports subnet low high → Contains links (link_of configs (record { subnet = subnet; low = low; high = high }))
+  pub complete : (subnet : PrefixValue) (low high : Port) → AreLinked ports subnet low high →
+      Contains links (link_of configs (record { subnet = subnet; low = low; high = high }))
 
 -- the router at one end of a link has a neighbor line with the other end's address and the AS number of the
 -- router there
@@ -188,7 +190,8 @@ pub record RunsOspfAt (prefix : PrefixValue) (port : Port) : Type 0 where
 abbrev pub IsLeastCost : List Port → PrefixValue → Option ℕ → Type 0
 IsLeastCost stubs prefix None = (port : Port) → Contains stubs port → RunsOspfAt prefix port → ⊥
 IsLeastCost stubs prefix (Some cost) =
-    ((port : Port) × Contains stubs port × RunsOspfAt prefix port × (stub_cost port ≡ cost)) × ((port : Port) → Contains stubs port → RunsOspfAt prefix port → cost ≤ stub_cost port)
+    ((port : Port) × Contains stubs port × RunsOspfAt prefix port × (stub_cost port ≡ cost)) ×
+    ((port : Port) → Contains stubs port → RunsOspfAt prefix port → cost ≤ stub_cost port)
 
 -- what a router with these stubs and `network` lines owns: their prefixes, with the least costs of stubs
 pub record AreOwned (stubs : List Port) (networks : List PrefixValue) (owned : List Owned) : Type 0 where
@@ -223,15 +226,15 @@ pub record IsNetworkOf (configs : List RouterConfig) (net : NetValue) : Type 0 w
   pub notices : AreNotices (in_order configs) net.links net.notices
 
 -- the router at the end of a link has an AS number
-pub record HasSystem (net : NetValue) (end : End) : Type 0 where
+pub record HasAsn (net : NetValue) (end : End) : Type 0 where
   pub router : Router
   pub there : slice_get net.routers end.router ≡ Some router
   pub asn : ℕ
   pub has : router.asn ≡ Some asn
 
 -- each session is between two routers that have AS numbers
-abbrev pub SessionsHaveSystems : NetValue → Type 0
-SessionsHaveSystems net = All (λ (link : Link). link.session ≡ true → HasSystem net link.low × HasSystem net link.high) net.links
+abbrev pub SessionsHaveAsns : NetValue → Type 0
+SessionsHaveAsns net = All (λ (link : Link). link.session ≡ true → HasAsn net link.low × HasAsn net link.high) net.links
 
 -- the group of the subnet is refused: it has an interface, and is neither one nor two on two routers
 pub record IsRefused (ports : List Port) (subnet : PrefixValue) : Type 0 where
@@ -261,6 +264,8 @@ abbrev pub NamesWhole : List RouterConfig → Result NetValue NetRefusal → Typ
 NamesWhole configs (Ok net) = NoneRefused (ports configs) × HasFewLinks configs × HasFewCommunities configs × (length configs ≤ 64)
 NamesWhole configs (Err (SharedSubnet subnet)) = IsLeastRefused (ports configs) subnet
 NamesWhole configs (Err (TooManyLinks n)) = NoneRefused (ports configs) × (n ≡ length (wires (ports configs))) × (64 < n)
-NamesWhole configs (Err (TooManyCommunities n)) = NoneRefused (ports configs) × HasFewLinks configs × (n ≡ length (communities configs)) × (64 < n)
-NamesWhole configs (Err (TooManyRouters n)) = NoneRefused (ports configs) × HasFewLinks configs × HasFewCommunities configs × (n ≡ length configs) × (64 < n)
+NamesWhole configs (Err (TooManyCommunities n)) = NoneRefused (ports configs) × HasFewLinks configs ×
+    (n ≡ length (communities configs)) × (64 < n)
+NamesWhole configs (Err (TooManyRouters n)) = NoneRefused (ports configs) × HasFewLinks configs × HasFewCommunities configs ×
+    (n ≡ length configs) × (64 < n)
 NamesWhole configs _ = Unit {0}

@@ -7,7 +7,7 @@ use Rattle.net_types.specs.NetValue.{NetValue}
 use Rattle.topology.specs.declared.interfaces.Port.{Port}
 use Rattle.topology.specs.declared.groups.Wire.{Wire}
 use Rattle.topology.specs.Pairs.{least_pair}
-use Rattle.topology.specs.Live.{in_order, same_host, same_system, has_address_twice, meet_at_address, ports}
+use Rattle.topology.specs.Live.{in_order, same_host, same_asn, has_address_twice, meet_at_address, ports}
 use Rattle.topology.specs.Groups.{shared_subnet, wires}
 use Rattle.topology.specs.Communities.{communities}
 use Rattle.topology.specs.Links.{links_of}
@@ -19,8 +19,8 @@ abbrev pub host_pair : List RouterConfig → Option (ℕ × ℕ)
 host_pair configs = least_pair (λ _. false) same_host 0 configs
 
 -- the least pair of positions of one AS number
-abbrev pub system_pair : List RouterConfig → Option (ℕ × ℕ)
-system_pair configs = least_pair (λ _. false) same_system 0 configs
+abbrev pub asn_pair : List RouterConfig → Option (ℕ × ℕ)
+asn_pair configs = least_pair (λ _. false) same_asn 0 configs
 
 -- the least pair of positions of one address
 abbrev pub address_pair : List RouterConfig → Option (ℕ × ℕ)
@@ -53,7 +53,7 @@ unless (None ∷ later) value = unless later value
 abbrev pub pair_refusals : List RouterConfig → List (Option NetRefusal)
 pair_refusals configs =
     option_map (λ p. SameHost p.0 p.1) (host_pair configs) ∷
-    option_map (λ p. SameAs p.0 p.1) (system_pair configs) ∷
+    option_map (λ p. SameAs p.0 p.1) (asn_pair configs) ∷
     option_map (λ p. SameAddress p.0 p.1) (address_pair configs) ∷
     []
 

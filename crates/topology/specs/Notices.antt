@@ -17,7 +17,8 @@ neighbors_of config = option_map_or (λ (bgp : BgpConfig). bgp.neighbors) config
 -- the link is a session of this router with the address at its other end
 abbrev pub is_session_with : ℕ → ℕ → Link → Bool
 is_session_with router address link =
-    link.session && (((link.low.router == router) && (link.high.address == address)) || ((link.high.router == router) && (link.low.address == address)))
+    link.session &&
+    (((link.low.router == router) && (link.high.address == address)) || ((link.high.router == router) && (link.low.address == address)))
 
 -- a neighbor line with this address makes a session of the router
 abbrev pub makes_session : List Link → ℕ → ℕ → Bool
@@ -28,7 +29,8 @@ abbrev pub idle_neighbors : List Link → ℕ → RouterConfig → List Neighbor
 idle_neighbors links router config = filter (λ (n : Neighbor). not (makes_session links router n.address)) (neighbors_of config)
 
 abbrev pub notices_of : List Link → ℕ → RouterConfig → List Notice
-notices_of links router config = map (λ (n : Neighbor). record { router = router; address = n.address }) (idle_neighbors links router config)
+notices_of links router config =
+    map (λ (n : Neighbor). record { router = router; address = n.address }) (idle_neighbors links router config)
 
 -- the notices of configurations whose routers are numbered from this number on, as the lines stand
 abbrev pub notices_from : List Link → ℕ → List RouterConfig → List Notice

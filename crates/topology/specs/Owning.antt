@@ -51,7 +51,12 @@ abbrev pub has_network : List PrefixValue → PrefixValue → Bool
 has_network networks prefix = list_any (λ q. same_prefix q prefix) networks
 
 abbrev pub owned_of : List Port → List PrefixValue → PrefixValue → Owned
-owned_of stubs networks prefix = record { prefix = prefix; network = has_network networks prefix; stub = has_stub stubs prefix; ospf_cost = least_cost stubs prefix }
+owned_of stubs networks prefix = record {
+  prefix = prefix;
+  network = has_network networks prefix;
+  stub = has_stub stubs prefix;
+  ospf_cost = least_cost stubs prefix;
+}
 
 -- the prefixes of the stubs and of the `network` lines, ascending, each once
 abbrev pub prefixes_of : List Port → List PrefixValue → List PrefixValue

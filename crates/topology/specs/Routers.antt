@@ -24,4 +24,5 @@ router_of ports communities router config = record {
 -- the routers of configurations that are numbered from this number on
 abbrev pub routers_from : List Port → List ℕ → ℕ → List RouterConfig → List Router
 routers_from ports communities router [] = []
-routers_from ports communities router (config ∷ configs) = router_of ports communities router config ∷ routers_from ports communities (router + 1) configs
+routers_from ports communities router (config ∷ configs) = router_of ports communities router config ∷
+    routers_from ports communities (router + 1) configs

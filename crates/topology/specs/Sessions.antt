@@ -34,7 +34,9 @@ side_by maps needs neighbor = record { «import» = policy_of maps needs neighbo
 -- has a neighbor line for it
 abbrev pub side_for : RouterConfig → ℕ → ℕ → Option Side
 side_for config address asn =
-    option_and_then (λ (bgp : BgpConfig). option_map (λ neighbor. side_by config.maps bgp.needs_policy neighbor) (find (λ neighbor. is_for address asn neighbor) bgp.neighbors)) config.bgp
+    option_and_then
+    (λ (bgp : BgpConfig). option_map (side_by config.maps bgp.needs_policy) (find (is_for address asn) bgp.neighbors))
+    config.bgp
 
 -- the AS number of the router of this number; the configurations are in order
 abbrev pub asn_at : List RouterConfig → ℕ → Option ℕ
@@ -43,7 +45,9 @@ asn_at configs router = option_and_then (λ config. asn_of config) (slice_get co
 -- the side that the router at the one interface has of a session with the router at the other
 abbrev pub side_at : List RouterConfig → Port → Port → Option Side
 side_at configs here there =
-    option_and_then (λ asn. option_and_then (λ config. side_for config there.address asn) (slice_get configs here.router)) (asn_at configs there.router)
+    option_and_then
+    (λ asn. option_and_then (λ config. side_for config there.address asn) (slice_get configs here.router))
+    (asn_at configs there.router)
 
 -- the side of an end of a link that is no session: nothing comes in or goes out
 abbrev pub no_side : Side

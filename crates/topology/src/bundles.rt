@@ -3,7 +3,7 @@
 ghost use Rattle.std.specs.Prelude.{◌≡◌, IfOk, All};
 ghost use Rattle.net_types.specs.ConfigFacts.{IsConfig};
 ghost use Rattle.frr_reader.specs.Reading.{reading, Answers};
-ghost use Rattle.topology.specs.Meaning.{SessionsHaveSystems};
+ghost use Rattle.topology.specs.Meaning.{SessionsHaveAsns};
 ghost use Rattle.topology.specs.Network.{network_of};
 ghost use Rattle.topology.specs.Files.{IsNetAnswer, IsAnswerOn};
 ghost use Rattle.topology.specs.Bundle.{bytes_of, named, configs_of, in_net, bundle_of, BundleAnswers};
@@ -25,7 +25,7 @@ const MAX_BYTES: u64 = 4_194_304;
 pub fn read_bundle(alloc: Global, files: &[SourceFile]) -> Result<Net, BundleRefusal>
     ensures exact { BundleAnswers (bundle_of files.now) result }
     ensures meaning { IsAnswerOn files.now result }
-    ensures sessions { IfOk result (λ net. SessionsHaveSystems net) }
+    ensures sessions { IfOk result (λ net. SessionsHaveAsns net) }
 {
     if files.len() > MAX_FILES {
         return Err(BundleRefusal::TooManyFiles(files.len() as u64));
@@ -80,7 +80,7 @@ fn net_of(alloc: Global, configs: &[RouterConfig]) -> Result<Net, BundleRefusal>
     requires { All IsConfig configs.now }
     ensures exact { BundleAnswers (in_net (network_of configs.now)) result }
     ensures meaning { IsNetAnswer configs.now result }
-    ensures sessions { IfOk result (λ net. SessionsHaveSystems net) }
+    ensures sessions { IfOk result (λ net. SessionsHaveAsns net) }
 {
     match build(alloc, configs) {
         Ok(net) => Ok(net),

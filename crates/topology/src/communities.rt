@@ -1,18 +1,14 @@
 //! The communities of a bundle, and sets of them by their numbers.
 
 ghost use Rattle.std.specs.Prelude.{◌≡◌, ◌++◌, ◌≤◌, ◌<◌, IfOk, IfSome, OnOk, length, position, flat_map};
-ghost use Rattle.topology.specs.Communities.{set_values, list_values, map_values, config_values, named_values, communities, number_of, with_number, with_community, set_of};
+ghost use Rattle.topology.specs.Communities.{set_values, list_values, map_values, config_values, named_values, communities, with_number, with_community, set_of};
 
 use crate::ascending::put;
 use net_types::{
-    Bits64, CommunityEntry, CommunityList, MapEntry, RouteMap, RouterConfig, SetCommunity,
+    Bits64, CommunityEntry, CommunityList, MapEntry, NO_ADVERTISE, NO_EXPORT, RouteMap,
+    RouterConfig, SetCommunity, community_among,
 };
 use std::alloc::{AllocError, Global};
-
-// NO_EXPORT and NO_ADVERTISE of RFC 1997.
-const NO_EXPORT: u32 = 0xFFFF_FF01;
-
-const NO_ADVERTISE: u32 = 0xFFFF_FF02;
 
 // The communities that a `set community` line names.
 fn set_values(set: &SetCommunity) -> &[u32]
@@ -95,14 +91,6 @@ pub fn communities(alloc: Global, configs: &[RouterConfig]) -> Result<Vec<u32>, 
     Ok(all)
 }
 
-// The number of a community.
-fn number_of(all: &[u32], value: u32) -> Option<usize>
-    ensures number { result ≡ number_of all.now value }
-    ensures within { IfSome result (λ n. n < length all.now) }
-{
-    all.iter().position(|community| *community == value)
-}
-
 // The set with one more number.
 fn with_number(set: Bits64, number: Option<usize>) -> Bits64
     requires { IfSome number (λ n. n < 64) }
@@ -120,7 +108,7 @@ fn with_community(all: &[u32], set: Bits64, value: u32) -> Bits64
     requires { length all.now ≤ 64 }
     ensures { result ≡ with_community all.now set value }
 {
-    with_number(set, number_of(all, value))
+    with_number(set, community_among(all, value))
 }
 
 /// The set of the numbers of these communities.

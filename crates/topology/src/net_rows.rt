@@ -5,7 +5,7 @@ use crate::tests::read;
 use std::test::Fail;
 
 // Bundles, and their networks as texts.
-static NETWORKS: [(&[&str], &str); 8] = [
+static NETWORKS: [(&[&str], &str); 9] = [
     // An OSPF link whose other end does not run OSPF; stubs of two costs in one prefix; one shut down.
     (
         &[
@@ -314,6 +314,15 @@ link 10.0.0.0/24 session false adjacency false
 link 10.0.0.0/30 session false adjacency false
 0 10.0.0.1 cost 10 import Closed export Closed
 1 10.0.0.2 cost 10 import Closed export Closed
+communities 65535:65281 65535:65282
+",
+    ),
+    // Byte order: capitals before small letters, and `r10` before `r2`; `R2` and `r2` are two routers.
+    (
+        &["hostname r2\n", "hostname r10\n", "hostname R2\n"],
+        "router R2 as None connected Closed ospf Closed
+router r10 as None connected Closed ospf Closed
+router r2 as None connected Closed ospf Closed
 communities 65535:65281 65535:65282
 ",
     ),

@@ -4,8 +4,8 @@ ghost use Rattle.std.specs.Prelude.{◌≡◌, ◌≤◌, IfOk, None, All, map, 
 ghost use Rattle.net_types.specs.ConfigFacts.{IsConfig};
 ghost use Rattle.net_types.specs.NetFacts.{IsNet};
 ghost use Rattle.topology.specs.Groups.{IsNumbered};
-ghost use Rattle.topology.specs.Meaning.{IsNetworkOf, NamesLeastPair, NamesWhole, SessionsHaveSystems};
-ghost use Rattle.topology.specs.Network.{Answers, unless, whole_refusals, system_pair, net_from, net_of, network_of};
+ghost use Rattle.topology.specs.Meaning.{IsNetworkOf, NamesLeastPair, NamesWhole, SessionsHaveAsns};
+ghost use Rattle.topology.specs.Network.{Answers, unless, whole_refusals, asn_pair, net_from, net_of, network_of};
 
 use crate::communities::communities;
 use crate::groups::{Wire, shared_subnet, subnets, wires};
@@ -14,7 +14,7 @@ use crate::links::links;
 use crate::notices::notices;
 use crate::order::in_order;
 use crate::routers::routers;
-use crate::twins::{address_pair, host_pair, system_pair};
+use crate::twins::{address_pair, asn_pair, host_pair};
 use net_types::{List, Net, NetRefusal, RouterConfig};
 use std::alloc::{AllocError, Global};
 
@@ -32,12 +32,12 @@ pub fn build(alloc: Global, configs: &[RouterConfig]) -> Result<Net, NetRefusal>
     ensures network { IfOk result (λ net. IsNetworkOf configs.now net) }
     ensures whole { NamesWhole configs.now result }
     ensures least_pair { NamesLeastPair configs.now result }
-    ensures sessions { IfOk result (λ net. SessionsHaveSystems net) }
+    ensures sessions { IfOk result (λ net. SessionsHaveAsns net) }
 {
     if let Some((i, j)) = host_pair(configs) {
         return Err(NetRefusal::SameHost(i as u64, j as u64));
     }
-    if let Some((i, j)) = system_pair(configs) {
+    if let Some((i, j)) = asn_pair(configs) {
         return Err(NetRefusal::SameAs(i as u64, j as u64));
     }
     if let Some((i, j)) = address_pair(configs) {
@@ -49,7 +49,7 @@ pub fn build(alloc: Global, configs: &[RouterConfig]) -> Result<Net, NetRefusal>
 // The network of configurations of which no two meet, or their first refusal.
 fn whole(alloc: Global, configs: &[RouterConfig]) -> Result<Net, NetRefusal>
     requires valid { All IsConfig configs.now }
-    requires systems { system_pair configs.now ≡ None }
+    requires asns { asn_pair configs.now ≡ None }
     ensures { Answers (unless (whole_refusals configs.now) (net_of configs.now)) result }
 {
     let in_order = in_order(alloc, configs)?;

@@ -30,7 +30,7 @@ pub fn read(alloc: Global, texts: &[&str]) -> Result<Result<Net, BundleRefusal>,
 #[derive(Clone, Copy)]
 enum Common {
     Host,
-    System,
+    Asn,
     Address,
 }
 
@@ -38,7 +38,7 @@ enum Common {
 fn refused(common: Common, i: u64, j: u64) -> NetRefusal {
     match common {
         Common::Host => NetRefusal::SameHost(i, j),
-        Common::System => NetRefusal::SameAs(i, j),
+        Common::Asn => NetRefusal::SameAs(i, j),
         Common::Address => NetRefusal::SameAddress(i, j),
     }
 }
@@ -61,7 +61,7 @@ static PAIRS: [(&[&str], Common, u64, u64); 5] = [
             "hostname y\nrouter bgp 2\n",
             "hostname z\nrouter bgp 2\n",
         ],
-        Common::System,
+        Common::Asn,
         1,
         2,
     ),
@@ -89,7 +89,7 @@ static PAIRS: [(&[&str], Common, u64, u64); 5] = [
             "hostname x\nrouter bgp 1\ninterface a\n ip address 10.0.0.1/30\n",
             "hostname y\nrouter bgp 1\ninterface a\n ip address 10.0.0.1/30\n",
         ],
-        Common::System,
+        Common::Asn,
         0,
         1,
     ),

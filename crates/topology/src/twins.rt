@@ -3,8 +3,8 @@
 ghost use Rattle.std.specs.Prelude.{◌≡◌, ◌<◌, ◌≤◌, IfSome, false, position, length};
 ghost use Rattle.std.specs.List.{list_any};
 ghost use Rattle.topology.specs.Pairs.{partner, any_pair};
-ghost use Rattle.topology.specs.Live.{same_host, same_number, same_system, share_address, has_address_twice, meet_at_address};
-ghost use Rattle.topology.specs.Network.{host_pair, system_pair, address_pair};
+ghost use Rattle.topology.specs.Live.{same_host, same_number, same_asn, share_address, has_address_twice, meet_at_address};
+ghost use Rattle.topology.specs.Network.{host_pair, asn_pair, address_pair};
 
 use crate::interfaces::link_address;
 use crate::order::is_same;
@@ -53,39 +53,37 @@ fn same_number(a: Option<u32>, b: Option<u32>) -> bool
 }
 
 // Whether the two have one AS number.
-fn is_same_system(a: &RouterConfig, b: &RouterConfig) -> bool
-    ensures { result ≡ same_system a.now b.now }
+fn is_same_asn(a: &RouterConfig, b: &RouterConfig) -> bool
+    ensures { result ≡ same_asn a.now b.now }
 {
     same_number(asn_of(a), asn_of(b))
 }
 
 // The first of the others that has this configuration's AS number.
-fn of_system(config: &RouterConfig, others: &[RouterConfig]) -> Option<usize>
-    ensures value { result ≡ position (λ y. same_system config.now y) others.now }
+fn of_asn(config: &RouterConfig, others: &[RouterConfig]) -> Option<usize>
+    ensures value { result ≡ position (λ y. same_asn config.now y) others.now }
     ensures within { IfSome result (λ at. at < length others.now) }
 {
-    others
-        .iter()
-        .position(|other| is_same_system(config, other))
+    others.iter().position(|other| is_same_asn(config, other))
 }
 
 // How far behind the configuration the first other one of its AS number stands.
-fn system_partner(config: &RouterConfig, others: &[RouterConfig]) -> Option<usize>
-    ensures value { result ≡ partner (λ _. false) same_system config.now others.now }
+fn asn_partner(config: &RouterConfig, others: &[RouterConfig]) -> Option<usize>
+    ensures value { result ≡ partner (λ _. false) same_asn config.now others.now }
     ensures within { IfSome result (λ far. far ≤ length others.now) }
 {
-    match of_system(config, others) {
+    match of_asn(config, others) {
         Some(between) => Some(between + 1),
         None => None,
     }
 }
 
 /// The least pair of positions of one AS number.
-pub fn system_pair(configs: &[RouterConfig]) -> Option<(usize, usize)>
-    ensures { result ≡ system_pair configs.now }
+pub fn asn_pair(configs: &[RouterConfig]) -> Option<(usize, usize)>
+    ensures { result ≡ asn_pair configs.now }
 {
     for (at, config) in configs.iter().enumerate() {
-        if let Some(far) = system_partner(config, &configs[at + 1..]) {
+        if let Some(far) = asn_partner(config, &configs[at + 1..]) {
             return Some((at, at + far));
         }
     }

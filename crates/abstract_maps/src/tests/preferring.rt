@@ -77,7 +77,7 @@ fn router(
     requires owned { All IsOwned owned }
     requires maps { (router : RouterValue) → All (IsNetMap 2 router) maps }
     ensures host { IfOk result (λ router. router.host ≡ host.now) }
-    ensures system { IfOk result (λ router. router.asn ≡ None) }
+    ensures asn { IfOk result (λ router. router.asn ≡ None) }
     ensures maps { IfOk result (λ router. router.maps ≡ maps) }
     ensures valid { IfOk result (IsRouter 2) }
 {

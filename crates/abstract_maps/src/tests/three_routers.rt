@@ -193,7 +193,7 @@ fn maps(alloc: Global) -> Result<List<NetMap>, NoMemory>
 
 fn router(alloc: Global, host: &str) -> Result<Router, NoMemory>
     ensures host { IfOk result (λ router. router.host ≡ host.now) }
-    ensures system { IfOk result (λ router. router.asn ≡ None) }
+    ensures asn { IfOk result (λ router. router.asn ≡ None) }
     ensures maps { IfOk result (λ router. length router.maps ≡ 9) }
     ensures valid { IfOk result (IsRouter 4) }
 {

@@ -245,7 +245,7 @@ fn router(
     requires communities { IsPlace 1 entry.communities }
     requires seq { entry.seq < 20 }
     ensures host { IfOk result (λ router. router.host ≡ host.now) }
-    ensures system { IfOk result (λ router. router.asn ≡ None) }
+    ensures asn { IfOk result (λ router. router.asn ≡ None) }
     ensures maps { IfOk result (λ router. length router.maps ≡ 1) }
     ensures valid { IfOk result (IsRouter 7) }
 {

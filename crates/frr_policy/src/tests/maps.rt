@@ -1,7 +1,7 @@
 //! Lines of route maps.
 
 use crate::{LineRefusal, MapStep, read_map_line, words};
-use net_types::{List, MapEntry, Origin, RouteMap, SetCommunity, Text};
+use net_types::{List, MapEntry, NO_EXPORT, Origin, RouteMap, SetCommunity, Sets, Text};
 use std::alloc::AllocError;
 use std::test::Fail;
 
@@ -57,6 +57,32 @@ static BLOCK: [&str; 9] = [
     " set as-path prepend 65001 65001",
 ];
 
+// Whether these are the sets of that block.
+fn are_sets(sets: &Sets) -> bool {
+    sets.preference == Some(200)
+        && sets.med == Some(4_294_967_295)
+        && sets.weight == Some(0)
+        && sets.origin == Some(Origin::Egp)
+        && is_added(&sets.community, &[4_259_840_001, NO_EXPORT])
+        && is_text(&sets.delete, "C")
+        && sets.prepend.as_slice() == [65_001, 65_001].as_slice()
+}
+
+// Whether the entry has the matches and sets of that block.
+fn is_block(entry: &MapEntry) -> bool {
+    is_text(&entry.prefixes, "P") && is_text(&entry.communities, "7") && are_sets(&entry.sets)
+}
+
+#[test]
+fn a_block_from_its_end(rt: HostRuntime) -> Result<(), Fail> {
+    let mut entry = begun(&rt, "route-map M permit 10")?;
+    for line in BLOCK.iter().rev() {
+        entry = changed(&rt, line, &entry)?;
+    }
+    assert!(rt; is_block(&entry));
+    Ok(())
+}
+
 #[test]
 fn a_block_with_each_row(rt: HostRuntime) -> Result<(), Fail> {
     let mut entry = begun(&rt, "route-map M deny 65535")?;
@@ -64,14 +90,7 @@ fn a_block_with_each_row(rt: HostRuntime) -> Result<(), Fail> {
         entry = changed(&rt, line, &entry)?;
     }
     assert!(rt; entry.seq == 65_535 && !entry.permit);
-    assert!(rt; is_text(&entry.prefixes, "P") && is_text(&entry.communities, "7"));
-    assert_eq!(rt; entry.sets.preference, Some(200));
-    assert_eq!(rt; entry.sets.med, Some(4_294_967_295));
-    assert_eq!(rt; entry.sets.weight, Some(0));
-    assert_eq!(rt; entry.sets.origin, Some(Origin::Egp));
-    assert!(rt; is_added(&entry.sets.community, &[4_259_840_001, 0xFFFF_FF01]));
-    assert!(rt; is_text(&entry.sets.delete, "C"));
-    assert_eq!(rt; entry.sets.prepend.as_slice(), [65_001, 65_001].as_slice());
+    assert!(rt; is_block(&entry));
     for line in &BLOCK {
         let refusal = changed(&rt, line, &entry).err();
         assert_eq!(rt; refusal, Some(LineRefusal::Repeated), "{line}");

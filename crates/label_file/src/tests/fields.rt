@@ -89,13 +89,40 @@ fn file_with(alloc: Global, key: &str, value: &str) -> Result<Vec<u8>, NoMemory>
     Ok(text)
 }
 
+// What `read_labels` makes of a label with this value at a key.
+fn refusal_with(alloc: Global, key: &str, value: &str) -> Result<Option<FormRefusal>, NoMemory> {
+    let net = triangle(alloc)?;
+    let file = file_with(alloc, key, value)?;
+    Ok(refusal_of(read_labels(alloc, &net, file.as_slice())))
+}
+
+// A path of so many routers, all of them d.
+fn path_of(alloc: Global, count: u32) -> Result<String, NoMemory> {
+    let mut text = String::from_str(alloc, "[")?;
+    for _number in 0..count {
+        text.push_str("\"d\", ")?;
+    }
+    text.push_str("]")?;
+    Ok(text)
+}
+
+#[test]
+fn longest_path(rt: HostRuntime) -> Result<(), Fail> {
+    let alloc = rt.alloc();
+    let longest = path_of(alloc, 1_344)?;
+    let refusal = refusal_with(alloc, "path", &longest)?;
+    assert_eq!(rt; refusal, None);
+    let longer = path_of(alloc, 1_345)?;
+    let refusal = refusal_with(alloc, "path", &longer)?;
+    assert_eq!(rt; refusal, Some(FormRefusal::BadField(1)));
+    Ok(())
+}
+
 #[test]
 fn one_field_changed(rt: HostRuntime) -> Result<(), Fail> {
     let alloc = rt.alloc();
-    let net = triangle(alloc)?;
     for (key, value, is_read) in &CASES {
-        let file = file_with(alloc, key, value)?;
-        let refusal = refusal_of(read_labels(alloc, &net, file.as_slice()));
+        let refusal = refusal_with(alloc, key, value)?;
         let wanted = if *is_read {
             None
         } else {

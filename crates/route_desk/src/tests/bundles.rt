@@ -5,9 +5,9 @@ use super::networks::{LOCAL_OR_LEARNED, LOOP, NONE_STABLE, TWO_STABLE};
 use super::{CHECK, File, ending_of, ends, files_of};
 use crate::bundle::network_of;
 use crate::folder::read_folder;
-use crate::report_text::host_of;
 use net_types::{Link, Net, NoMemory, Notice, Owned, Router, address_text, prefix_text};
 use outside::MemShelf;
+use report_text::host_of;
 use std::alloc::Global;
 
 /// Three routers in a line.

@@ -1,6 +1,7 @@
 //! Folders at their limits: a line of 64 routers with the greatest costs, and one file more.
 
-use super::{CHECK, Ended, ends, run_over};
+use super::folders::LINE;
+use super::{CHECK, Ended, ends, files_of, run_over};
 use net_types::{List, NoMemory, SourceFile, Text};
 use std::alloc::Global;
 
@@ -101,4 +102,39 @@ fn sixty_five_files_before_the_change(rt: HostRuntime) {
         Err(NoMemory) => None,
     };
     assert!(rt; ends(run, 2, "refused: base: TooManyFiles 65\n"));
+}
+
+// A comment of so many bytes.
+fn comment(alloc: Global, count: u32) -> Result<List<u8>, NoMemory> {
+    let mut bytes = List::new(alloc);
+    for _number in 0..count {
+        bytes.push(b'#')?;
+    }
+    Ok(bytes)
+}
+
+// How a check of the line ends whose property file is such a comment.
+fn check_of_comment(alloc: Global, count: u32) -> Option<Ended> {
+    let mut files = files_of(alloc, &LINE, &[]).ok()?;
+    files
+        .push(SourceFile {
+            name: Text::from_str(alloc, "props").ok()?,
+            text: comment(alloc, count).ok()?,
+        })
+        .ok()?;
+    run_over(alloc, &CHECK, files, &[], &[])
+}
+
+#[test]
+fn longest_property_file(rt: HostRuntime) {
+    let wanted =
+        "route certificate report, version 1\nbase: routers 3, links 2, solved 0 of 0\nnew: routers 3, links 2, solved 0 of 0\nA certified property holds in every stable solution. That one exists is not claimed.\n";
+    assert!(rt; ends(check_of_comment(rt.alloc(), 262_144), 0, wanted));
+    assert!(rt;
+        ends(
+            check_of_comment(rt.alloc(), 262_145),
+            2,
+            "refused: properties: TooLong\n"
+        )
+    );
 }

@@ -103,7 +103,7 @@ fn refused_bundles(rt: HostRuntime) {
             "hostname a\ninterface eth0\n ip address 10.0.0.1/30\ninterface eth1\n ip address 10.0.0.1/29\n",
         ),
     ];
-    let one_system: [File<'_>; 3] = [
+    let one_asn: [File<'_>; 3] = [
         ("old/", ""),
         ("new/r1.conf", "hostname r1\nrouter bgp 65001\n"),
         ("new/r2.conf", "hostname r2\nrouter bgp 65001\n"),
@@ -116,7 +116,7 @@ fn refused_bundles(rt: HostRuntime) {
         ),
     ];
     let alloc = rt.alloc();
-    assert!(rt; refuses(alloc, &one_system, "refused: new: SameAs r1.conf r2.conf\n"));
+    assert!(rt; refuses(alloc, &one_asn, "refused: new: SameAs r1.conf r2.conf\n"));
     assert!(rt; refuses(alloc, &foreign, "refused: new: r1.conf: ForeignAs line 4\n"));
     assert!(rt; refuses(alloc, &shared, "refused: new: SharedSubnet 10.0.0.0/24\n"));
     assert!(rt;

@@ -3,10 +3,9 @@
 use super::bundles::network;
 use super::folders::{FROM_NOTHING, LINE, OVERLAPPING};
 use super::{CHECK, File, ending_of, ends};
-use crate::property::{Kind, Property};
-use crate::report_text::{Side, report};
-use crate::verdict::{Broken, Outcome, Verdict};
 use net_types::{FailSet, List, Net, NoMemory, Prefix, Text};
+use property_book::{Broken, Kind, Outcome, Property, Verdict};
+use report_text::{Side, report};
 use std::alloc::Global;
 
 // A router with a neighbor that nobody is.

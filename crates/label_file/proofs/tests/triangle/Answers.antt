@@ -12,4 +12,4 @@ new-requires-2 c =
     let links : c.in_ok-links.links ≡ side 167772160 0 1 ∷ side 167772416 0 2 ∷ side 167772672 1 2 ∷ [] = rw (given, c.link.ensures, c.link-2.ensures, c.link-3.ensures) refl in
     let words : c.in_ok-communities.communities ≡ 4294967041 ∷ 4294967042 ∷ [] = c.in_ok-communities.ensures in
     rw (routers, links, words, c.new.ensures)
-    (triangle_is c.in_ok-router.field-0 c.in_ok-router-2.field-0 c.in_ok-router-3.field-0 a.host b.host d.host a.system b.system a.valid b.valid d.valid)
+    (triangle_is c.in_ok-router.field-0 c.in_ok-router-2.field-0 c.in_ok-router-3.field-0 a.host b.host d.host a.asn b.asn a.valid b.valid d.valid)

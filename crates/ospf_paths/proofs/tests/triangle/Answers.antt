@@ -12,6 +12,6 @@ new-requires-2 g c =
     let links : c.in_ok-links.links ≡ c.joined.result ∷ c.joined-2.result ∷ c.joined-3.result ∷ c.joined-4.result ∷ [] = c.in_ok-links.ensures in
     let words : c.in_ok-communities.communities ≡ 4294967041 ∷ 4294967042 ∷ [] = c.in_ok-communities.ensures in
     rw (routers, links, words, c.new.ensures)
-    (triangle_is c.in_ok-router.field-0 c.in_ok-router-2.field-0 c.in_ok-router-3.field-0 c.joined.result c.joined-2.result c.joined-3.result c.joined-4.result a.host b.host d.host a.system b.system a.valid b.valid d.valid
+    (triangle_is c.in_ok-router.field-0 c.in_ok-router-2.field-0 c.in_ok-router-3.field-0 c.joined.result c.joined-2.result c.joined-3.result c.joined-4.result a.host b.host d.host a.asn b.asn a.valid b.valid d.valid
     c.joined.ensures.subnet c.joined-2.ensures.subnet c.joined-3.ensures.subnet c.joined-4.ensures.subnet
     (c.joined.ensures.valid all refl) (c.joined-2.ensures.valid all refl) (c.joined-3.ensures.valid all refl) (c.joined-4.ensures.valid all refl))

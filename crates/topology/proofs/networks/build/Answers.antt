@@ -1,29 +1,29 @@
-use Rattle.topology.proofs.TwinLemmas.{named-host, no-host, named-system, no-system, none-system, named-address, no-address, names-whole}
+use Rattle.topology.proofs.TwinLemmas.{named-host, no-host, named-asn, no-asn, none-asn, named-address, no-address, names-whole}
 use Rattle.topology.specs.Network.{whole_refusals}
-use Rattle.topology.proofs.MeaningLemmas.{IsNetworkOf-answer, SessionsHaveSystems-answer}
+use Rattle.topology.proofs.MeaningLemmas.{IsNetworkOf-answer, SessionsHaveAsns-answer}
 use Rattle.topology.proofs.WholeLemmas.{NamesWhole-answer}
 use Rattle.topology.proofs.networks.build.Goals as goal
 
 pub returns-in-Some-clause-least_pair : goal.returns-in-Some-clause-least_pair
 returns-in-Some-clause-least_pair c = named-host c.args.configs.now c.host_pair.result c.in-Some.i c.in-Some.j c.host_pair.ensures c.in-Some.is
 
-pub returns-in-Some-system_pair-clause-least_pair : goal.returns-in-Some-system_pair-clause-least_pair
-returns-in-Some-system_pair-clause-least_pair c =
-    (no-host c.args.configs.now c.host_pair.result c.host_pair.ensures c.in_default.not-Some, named-system c.args.configs.now c.system_pair.result c.in-Some-system_pair.i c.in-Some-system_pair.j c.system_pair.ensures c.in-Some-system_pair.is)
+pub returns-in-Some-asn_pair-clause-least_pair : goal.returns-in-Some-asn_pair-clause-least_pair
+returns-in-Some-asn_pair-clause-least_pair c =
+    (no-host c.args.configs.now c.host_pair.result c.host_pair.ensures c.in_default.not-Some, named-asn c.args.configs.now c.asn_pair.result c.in-Some-asn_pair.i c.in-Some-asn_pair.j c.asn_pair.ensures c.in-Some-asn_pair.is)
 
 pub returns-in-Some-address_pair-clause-least_pair : goal.returns-in-Some-address_pair-clause-least_pair
 returns-in-Some-address_pair-clause-least_pair c =
-    (no-host c.args.configs.now c.host_pair.result c.host_pair.ensures c.in_default.not-Some, no-system c.args.configs.now c.system_pair.result c.system_pair.ensures c.in_default-system_pair.not-Some, named-address c.args.configs.now c.address_pair.result c.in-Some-address_pair.i c.in-Some-address_pair.j c.address_pair.ensures c.in-Some-address_pair.is)
+    (no-host c.args.configs.now c.host_pair.result c.host_pair.ensures c.in_default.not-Some, no-asn c.args.configs.now c.asn_pair.result c.asn_pair.ensures c.in_default-asn_pair.not-Some, named-address c.args.configs.now c.address_pair.result c.in-Some-address_pair.i c.in-Some-address_pair.j c.address_pair.ensures c.in-Some-address_pair.is)
 
-pub whole-requires-clause-systems : goal.whole-requires-clause-systems
-whole-requires-clause-systems c = none-system c.args.configs.now c.system_pair.result c.system_pair.ensures c.in_default-system_pair.not-Some
+pub whole-requires-clause-asns : goal.whole-requires-clause-asns
+whole-requires-clause-asns c = none-asn c.args.configs.now c.asn_pair.result c.asn_pair.ensures c.in_default-asn_pair.not-Some
 
 pub returns-clause-least_pair : goal.returns-clause-least_pair
 returns-clause-least_pair c =
     names-whole c.args.configs.now c.whole.result
     (record {
       hosts = no-host c.args.configs.now c.host_pair.result c.host_pair.ensures c.in_default.not-Some;
-      systems = no-system c.args.configs.now c.system_pair.result c.system_pair.ensures c.in_default-system_pair.not-Some;
+      asns = no-asn c.args.configs.now c.asn_pair.result c.asn_pair.ensures c.in_default-asn_pair.not-Some;
       addresses = no-address c.args.configs.now c.address_pair.result c.address_pair.ensures c.in_default-address_pair.not-Some;
     })
     c.whole.ensures
@@ -32,7 +32,7 @@ pub returns-clause-network : goal.returns-clause-network
 returns-clause-network c = IsNetworkOf-answer c.args.configs.now c.requires (whole_refusals c.args.configs.now) c.whole.result c.whole.ensures
 
 pub returns-clause-sessions : goal.returns-clause-sessions
-returns-clause-sessions c = SessionsHaveSystems-answer c.args.configs.now (whole_refusals c.args.configs.now) c.whole.result c.whole.ensures
+returns-clause-sessions c = SessionsHaveAsns-answer c.args.configs.now (whole_refusals c.args.configs.now) c.whole.result c.whole.ensures
 
 pub returns-clause-whole : goal.returns-clause-whole
 returns-clause-whole c = NamesWhole-answer c.args.configs.now c.whole.result c.whole.ensures

@@ -21,7 +21,7 @@ assemble-requires-clause-valid c =
     let sorted = ap (λ xs. map (λ y. y.now) xs) c.deref.ensures.value ∙ c.in_ok-in_order.ensures in
     let all = c.in_ok-ports.ensures ∙ ap (λ xs. ports_from 0 xs) sorted in
     let found = c.deref-9.ensures.value ∙ c.in_ok-wires.ensures ∙ ap (λ ps. wires ps) (c.deref-5.ensures.value ∙ all) in
-    net_is_at c.args.configs.now (map (λ y. y.now) c.deref-7.result.now) c.deref-8.result.now c.deref-9.result.now c.in_ok-communities.communities.items c.requires.valid c.requires.systems
+    net_is_at c.args.configs.now (map (λ y. y.now) c.deref-7.result.now) c.deref-8.result.now c.deref-9.result.now c.in_ok-communities.communities.items c.requires.valid c.requires.asns
     (small_at c.args.configs.now c.deref-9.result.now c.in_ok-communities.communities.items found c.in_ok-communities.ensures (omega arith) (omega arith) (omega arith))
     (ap (λ xs. map (λ y. y.now) xs) c.deref-7.ensures.value ∙ c.in_ok-in_order.ensures)
     (c.deref-8.ensures.value ∙ all)

@@ -15,4 +15,4 @@ new-requires-5 c =
     let links : c.in_ok-links.links ≡ side 167772160 0 1 (Map 0) ∷ side 167772416 0 2 Open ∷ side 167772672 1 2 Open ∷ [] = rw (given, c.session.ensures, c.session-2.ensures, c.session-3.ensures) refl in
     let words : c.in_ok-communities.communities ≡ 4294967041 ∷ 4294967042 ∷ [] = c.in_ok-communities.ensures in
     rw (routers, links, words, c.new-4.ensures)
-    (preferring_is c.in_ok-router.field-0 c.in_ok-router-2.field-0 c.in_ok-router-3.field-0 a.host b.host d.host a.system b.system one other a.valid b.valid d.valid)
+    (preferring_is c.in_ok-router.field-0 c.in_ok-router-2.field-0 c.in_ok-router-3.field-0 a.host b.host d.host a.asn b.asn one other a.valid b.valid d.valid)

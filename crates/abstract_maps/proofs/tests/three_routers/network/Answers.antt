@@ -11,4 +11,4 @@ new-requires-2 c =
     let links : c.in_ok-links.links ≡ map to_link sides = rw (c.in_ok-links.ensures, c.link.ensures, c.link-2.ensures, c.link-3.ensures, c.link-4.ensures, c.link-5.ensures, c.link-6.ensures, c.link-7.ensures, c.link-8.ensures, c.link-9.ensures, c.link-10.ensures, c.link-11.ensures, c.link-12.ensures, c.link-13.ensures, c.link-14.ensures, c.link-15.ensures, c.link-16.ensures) refl in
     let words : c.in_ok-communities.communities ≡ 4259840001 ∷ 4259840002 ∷ 4294967041 ∷ 4294967042 ∷ [] = c.in_ok-communities.ensures in
     rw (routers, links, words)
-    (three_are c.in_ok-router.field-0 c.in_ok-router-2.field-0 c.in_ok-router-3.field-0 c.new.result c.new.ensures a.host b.host d.host a.system b.system a.maps b.maps d.maps a.valid b.valid d.valid)
+    (three_are c.in_ok-router.field-0 c.in_ok-router-2.field-0 c.in_ok-router-3.field-0 c.new.result c.new.ensures a.host b.host d.host a.asn b.asn a.maps b.maps d.maps a.valid b.valid d.valid)

@@ -13,5 +13,5 @@ new-requires-2 c =
     let words : c.in_ok-communities.communities ≡ 10 ∷ 20 ∷ 30 ∷ 40 ∷ 50 ∷ 4294967041 ∷ 4294967042 ∷ [] = c.in_ok-communities.ensures in
     rw (routers, links, words, c.new.ensures)
     (net_is c.in_ok-router.field-0 c.in_ok-router-2.field-0 c.in_ok-router-3.field-0 c.policy.result c.policy-3.result c.policy-5.result c.policy-2.result c.policy-4.result c.policy-6.result
-    a.host b.host d.host a.system b.system d.system a.maps b.maps d.maps a.valid b.valid d.valid
+    a.host b.host d.host a.asn b.asn d.asn a.maps b.maps d.maps a.valid b.valid d.valid
     c.policy.ensures c.policy-3.ensures c.policy-5.ensures c.policy-2.ensures c.policy-4.ensures c.policy-6.ensures)

@@ -1,0 +1,8 @@
+use Rattle.abstract_maps.proofs.ArcLemmas.{transfer_sound, gives_sound}
+use Rattle.abstract_maps.proofs.laws.law_of_soundness.Goals as goal
+
+pub returns-clause-transfer : goal.returns-clause-transfer
+returns-clause-transfer c = transfer_sound
+
+pub returns-clause-gives : goal.returns-clause-gives
+returns-clause-gives c = gives_sound

@@ -1,5 +1,0 @@
-use Rattle.abstract_maps.proofs.ArcLemmas.{passing_is_sure}
-use Rattle.abstract_maps.proofs.laws.passing_law.Goals as goal
-
-pub returns : goal.returns
-returns c = passing_is_sure

@@ -1,5 +1,0 @@
-use Rattle.abstract_route.proofs.BeatsLemmas.{beats_is_sound}
-use Rattle.abstract_route.proofs.laws.beats_law.Goals as goal
-
-pub returns : goal.returns
-returns c = beats_is_sound

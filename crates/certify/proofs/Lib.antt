@@ -1,0 +1,3 @@
+pub mod ZipLemmas
+pub mod HoldsLemmas
+pub mod CaseLemmas

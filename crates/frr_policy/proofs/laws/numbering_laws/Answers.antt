@@ -1,8 +1,0 @@
-use Rattle.frr_policy.proofs.NumberLemmas.{is_numbered, is_added}
-use Rattle.frr_policy.proofs.laws.numbering_laws.Goals as goal
-
-pub returns-clause-next : goal.returns-clause-next
-returns-clause-next c = is_numbered
-
-pub returns-clause-added : goal.returns-clause-added
-returns-clause-added c = is_added

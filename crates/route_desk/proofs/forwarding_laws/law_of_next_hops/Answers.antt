@@ -1,8 +1,0 @@
-use Rattle.route_desk.proofs.StepLemmas.{hops_go_along_arcs, others_go_by_hops}
-use Rattle.route_desk.proofs.forwarding_laws.law_of_next_hops.Goals as goal
-
-pub returns-clause-hops : goal.returns-clause-hops
-returns-clause-hops c = others_go_by_hops
-
-pub returns-clause-arcs : goal.returns-clause-arcs
-returns-clause-arcs c = hops_go_along_arcs
