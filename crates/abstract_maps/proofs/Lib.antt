@@ -11,6 +11,3 @@ pub mod ExactLemmas
 pub mod OneRouteArcs
 pub mod FreeLemmas
 pub mod KnownLemmas
-pub mod PreferringLemmas
-pub mod OneRouterLemmas
-pub mod ThreeRouterLemmas

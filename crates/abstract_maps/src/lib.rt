@@ -19,8 +19,6 @@ mod local_rows;
 mod maps;
 mod row_sets;
 mod statuses;
-#[cfg(test)]
-mod tests;
 mod transfers;
 
 pub use laws::{
@@ -28,6 +26,6 @@ pub use laws::{
     law_of_passing, law_of_rows, law_of_soundness,
 };
 pub use local_rows::local_row;
-pub use maps::run_map_abs;
+pub use maps::{run_map_abs, sure};
 pub use statuses::Status;
 pub use transfers::{is_open, passes, transfer};

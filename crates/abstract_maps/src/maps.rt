@@ -120,9 +120,9 @@ fn sure_policy(router: &Router, policy: Policy, prefix: &Prefix, row: &Row) -> b
     }
 }
 
-// Whether the policy surely lets each route of the row through, where it is inhabited.
+/// Whether the policy surely lets each route of the row through, where it is inhabited.
 #[tactic(auto, unfolding(crate::specs::AbstractMap::sure))]
-pub(crate) fn sure(net: &Net, u: u8, policy: Policy, prefix: &Prefix, row: &Row) -> bool
+pub fn sure(net: &Net, u: u8, policy: Policy, prefix: &Prefix, row: &Row) -> bool
     ensures { result ≡ sure net.now u policy prefix.now row.now }
 {
     match net.routers().get(usize::from(u)) {

@@ -15,8 +15,6 @@ mod candidates;
 mod fitting;
 mod laws;
 mod rows;
-#[cfg(test)]
-mod tests;
 
 pub use candidates::{Candidate, beats};
 pub use fitting::contains;

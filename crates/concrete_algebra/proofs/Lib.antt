@@ -3,7 +3,6 @@ pub mod OptionLemmas
 pub mod PathLemmas
 pub mod RoutingLemmas
 pub mod FindingLemmas
-pub mod TestLemmas
 pub mod ChainLemmas
 pub mod OriginLemmas
 pub mod ReadingLemmas

@@ -21,8 +21,6 @@ mod matches;
 mod orders;
 mod sets;
 mod stability;
-#[cfg(test)]
-mod tests;
 
 pub use carrying::{export, holds_value, import, is_kept_home};
 pub use laws::{

@@ -11,8 +11,6 @@
 
 mod laws;
 mod numbers;
-#[cfg(test)]
-mod tests;
 mod walk;
 
 pub use laws::{law_of_counts, law_of_fewer_links, law_of_next, law_of_places, law_of_the_list};

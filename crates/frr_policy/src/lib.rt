@@ -22,8 +22,6 @@ mod map_steps;
 mod numbering;
 mod prefix_lines;
 mod refusals;
-#[cfg(test)]
-mod tests;
 mod values;
 
 pub use blanks::Words;

@@ -25,6 +25,3 @@ mod values;
 
 pub use laws::{law_of_lines, law_of_reading, law_of_states};
 pub use reading::read_router;
-
-#[cfg(test)]
-mod tests;

@@ -3,4 +3,3 @@ pub mod LinkLemmas
 pub mod OptionLemmas
 pub mod ValueLemmas
 pub mod FactLemmas
-pub mod TriangleLemmas

@@ -15,8 +15,6 @@ mod links;
 mod reading;
 mod sources;
 mod tables;
-#[cfg(test)]
-mod tests;
 mod values;
 
 pub use contents::Labels;

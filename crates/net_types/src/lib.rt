@@ -26,8 +26,6 @@ mod numbers;
 mod prefixes;
 mod refusals;
 mod routes;
-#[cfg(test)]
-mod tests;
 mod texts;
 
 pub use address_texts::{address_text, prefix_text};

@@ -5,4 +5,3 @@ pub mod Existence
 pub mod ListLemmas
 pub mod SlackLinks
 pub mod FailureLaws
-pub mod TriangleLemmas

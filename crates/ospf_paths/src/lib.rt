@@ -16,8 +16,6 @@ mod crossings;
 mod hops;
 mod laws;
 mod least_sums;
-#[cfg(test)]
-mod tests;
 
 pub use hops::{is_next_hop, is_tight};
 pub use laws::{

@@ -17,8 +17,6 @@ mod out_sink;
 mod paths;
 mod shelf;
 mod sink;
-#[cfg(test)]
-mod tests;
 
 pub use calls::Calls;
 pub use dir_shelf::DirShelf;

@@ -15,8 +15,6 @@ mod applying;
 mod book;
 mod laws;
 mod property;
-#[cfg(test)]
-mod tests;
 mod verdict;
 
 pub use applying::applicable;

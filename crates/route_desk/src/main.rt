@@ -1,27 +1,11 @@
 //! The route desk: certifies changes of routing.
 //!
-//! Decides: what the program's words ask, in which order files are read and judged, that `check` refuses
-//! networks with BGP for now, the exit status, and the bytes of what `stable` answers and of each refusal.
-//! Stands on: `outside` for files and output, `topology` for networks, `property_book`, `certify` and
-//! `report_text` for `check`, `label_file`, `ospf_paths` and `concrete_algebra` for `stable`.
-//! Promises: the clauses of `run`. Not: anything of real files but the causes of its statuses.
+//! Decides: which words, files and output the command gets: the program's own.
+//! Stands on: `commands` for what is done with them, `outside` for the files and the output.
+//! Promises: nothing of its own; what is done is that of `run` of `commands`.
 #![tactic(auto)]
 
-mod answer;
-mod bundle;
-mod check;
-mod command;
-mod folder;
-mod form;
-mod refusal_texts;
-mod run;
-mod stable;
-mod status;
-mod stop;
-#[cfg(test)]
-mod tests;
-
-use crate::run::run;
+use commands::run;
 use net_types::{NoMemory, Text};
 use outside::{DirShelf, OutSink};
 use std::alloc::Global;

@@ -10,8 +10,6 @@
 mod documents;
 mod fields;
 mod tables;
-#[cfg(test)]
-mod tests;
 
 pub use documents::document;
 pub use fields::{array_at, has_only, host_at, number_at, prefix_at, text_at, value_at, within};

@@ -12,8 +12,6 @@ pub mod LinkLemmas
 pub mod RouterLemmas
 pub mod NoticeLemmas
 pub mod NetLemmas
-pub mod ReadLemmas
-pub mod FileLemmas
 pub mod SessionLemmas
 pub mod IdleLemmas
 pub mod TwinLemmas

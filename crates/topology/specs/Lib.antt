@@ -11,6 +11,4 @@ pub mod Links
 pub mod Notices
 pub mod Routers
 pub mod Network
-pub mod Bundle
 pub mod Meaning
-pub mod Files

@@ -1,0 +1,141 @@
+-- What a run comes to, from what its command came to and how that was written.
+use Rattle.std.proofs.Common.{ℕ, ◌≡◌, ◌≤◌, ◌⊎◌, inl, inr, ◌++◌, Bool, true, false, List, Option, Some, None, Result, Ok, Err, sym, subst, ap, ◌∙◌, arith}
+use Rattle.outside.specs.Content.{Content}
+use Rattle.commands.specs.declared.answer.Answer.{Answer}
+use Rattle.commands.specs.declared.stop.Stop.{Stop}
+use Rattle.commands.specs.declared.stop.Stop.TheVariants.{Refused, ReadFault, NoMemory}
+use Rattle.commands.specs.Commands.{Asked, Check, Stable}
+use Rattle.commands.specs.Ending.{IsReport, check_inputs}
+use Rattle.commands.specs.Running.{Finishes, HasAnswered, HasNoMemory, HasPart, HasUsage, IsAnswerOf, IsBehind, IsEnding, IsPartBehind, IsRefusedCommand, IsWritten, Performs, Refuses, read_fault_line, status_of, usage_line}
+use Rattle.commands.specs.StableEnding.{IsStability, stable_inputs}
+use Rattle.commands.specs.Stops.{Comes, HasCause}
+
+-- the ending of a command that came to an answer
+ending : {A : Type 0} (Is : A → List ℕ → Bool → Type 0) (value : Result A (List ℕ)) (answer : Answer) (status : ℕ) → Comes Is value (Ok answer) → status ≡ status_of answer.good → IsEnding Is value answer.text status
+ending Is value answer status came is = subst (λ v. IsEnding Is v answer.text status) (sym came.1) (record { good = answer.good; answer = came.2; status_is = is })
+
+answer_of : (content : Content) (asked : Asked) (answer : Answer) (status : ℕ) → Performs content asked (Ok answer) → status ≡ status_of answer.good → IsAnswerOf content asked answer.text status
+answer_of content (Check base new properties) answer status performs is = ending IsReport (check_inputs content base new properties) answer status performs is
+answer_of content (Stable bundle labels) answer status performs is = ending IsStability (stable_inputs content bundle labels) answer status performs is
+
+-- the ending of a command that came to a refusal
+refusal : {A : Type 0} (Is : A → List ℕ → Bool → Type 0) (value : Result A (List ℕ)) (line : List ℕ) (status : ℕ) → value ≡ Err line → status ≡ 2 → IsEnding Is value line status
+refusal Is value line status came is = subst (λ v. IsEnding Is v line status) (sym came) (record { text_is = λ i. line; status_is = is })
+
+refusal_of : (content : Content) (asked : Asked) (line : List ℕ) (status : ℕ) → Performs content asked (Err (Refused line)) → status ≡ 2 → IsAnswerOf content asked line status
+refusal_of content (Check base new properties) line status performs is = refusal IsReport (check_inputs content base new properties) line status performs is
+refusal_of content (Stable bundle labels) line status performs is = refusal IsStability (stable_inputs content bundle labels) line status performs is
+
+-- a text with its status, where the sink did not fail
+whole : (wanted : ℕ) (text before : List ℕ) (faults faults_now : ℕ) (given given_now : Option (List ℕ)) (status : ℕ) → (status ≡ 5 → ⊥) → given ≡ Some before → IsWritten wanted text faults faults_now given given_now status → (status ≡ wanted) × (given_now ≡ Some (before ++ text))
+whole wanted text before faults faults_now given given_now status calm e (inl w) = (w.ends, w.told before e)
+whole wanted text before faults faults_now given given_now status calm e (inr w) = absurd (calm w.ends)
+
+pub answered : (content : Content) (asked : Asked) (before : List ℕ) (performed : Result Answer Stop) (faults faults_now : ℕ) (given given_now : Option (List ℕ)) (status : ℕ) → Performs content asked performed → (status ≡ 4 → ⊥) → (status ≡ 5 → ⊥) → given ≡ Some before → Finishes performed faults faults_now given given_now status → HasAnswered content asked before given_now status ⊎ HasNoMemory before given_now status
+answered content asked before (Ok answer) faults faults_now given given_now status performs quiet calm e f =
+    let w = whole (status_of answer.good) answer.text before faults faults_now given given_now status calm e f in
+    inl (record { text = answer.text; answer = answer_of content asked answer status performs w.0; written = w.1 })
+answered content asked before (Err (Refused line)) faults faults_now given given_now status performs quiet calm e f =
+    let w = whole 2 line before faults faults_now given given_now status calm e f in
+    inl (record { text = line; answer = refusal_of content asked line status performs w.0; written = w.1 })
+answered content asked before (Err ReadFault) faults faults_now given given_now status performs quiet calm e (inl f) = absurd (quiet f.ends)
+answered content asked before (Err ReadFault) faults faults_now given given_now status performs quiet calm e (inr f) = absurd (calm f.ends)
+answered content asked before (Err NoMemory) faults faults_now given given_now status performs quiet calm e f = inr (record { status_is = f.ends; written = f.told ∙ e })
+
+pub used : (before : List ℕ) (wanted : ℕ) (text : List ℕ) (faults faults_now : ℕ) (given given_now : Option (List ℕ)) (status : ℕ) → wanted ≡ 3 → text ≡ usage_line → (status ≡ 5 → ⊥) → given ≡ Some before → IsWritten wanted text faults faults_now given given_now status → HasUsage before given_now status
+used before wanted text faults faults_now given given_now status three line calm e w =
+    let done = whole wanted text before faults faults_now given given_now status calm e w in
+    record { status_is = done.0 ∙ three; written = done.1 ∙ ap (λ t. Some (before ++ t)) line }
+
+pub behind_usage : (wanted : ℕ) (text : List ℕ) (faults faults_now : ℕ) (given given_now : Option (List ℕ)) (status : ℕ) → text ≡ usage_line → IsWritten wanted text faults faults_now given given_now status → status ≡ 3 → IsBehind usage_line given given_now
+behind_usage wanted text faults faults_now given given_now status line (inl w) three = λ before e. w.told before e ∙ ap (λ t. Some (before ++ t)) line
+behind_usage wanted text faults faults_now given given_now status line (inr w) three = absurd (let five = w.ends in omega arith)
+
+-- a status of a good or a bad answer is below 2
+small : (good : Bool) (status : ℕ) → status ≡ status_of good → status ≤ 1
+small true status is = let zero_is : status ≡ 0 = is in omega arith
+small false status is = let one_is : status ≡ 1 = is in omega arith
+
+-- where a command ends with status 2, a step of it refused
+refuses : {A : Type 0} (Is : A → List ℕ → Bool → Type 0) (value : Result A (List ℕ)) (performed : Result Answer Stop) (faults faults_now : ℕ) (given given_now : Option (List ℕ)) (status : ℕ) → Comes Is value performed → status ≡ 2 → Finishes performed faults faults_now given given_now status → Refuses value
+refuses Is value (Ok answer) faults faults_now given given_now status came two (inl w) = absurd (let one = small answer.good status w.ends in omega arith)
+refuses Is value (Ok answer) faults faults_now given given_now status came two (inr w) = absurd (let five = w.ends in omega arith)
+refuses Is value (Err (Refused line)) faults faults_now given given_now status came two f = (line, came)
+refuses Is value (Err ReadFault) faults faults_now given given_now status came two (inl w) = absurd (let four = w.ends in omega arith)
+refuses Is value (Err ReadFault) faults faults_now given given_now status came two (inr w) = absurd (let five = w.ends in omega arith)
+refuses Is value (Err NoMemory) faults faults_now given given_now status came two f = absurd (let eight = f.ends in omega arith)
+
+pub refused : (content : Content) (asked : Asked) (performed : Result Answer Stop) (faults faults_now : ℕ) (given given_now : Option (List ℕ)) (status : ℕ) → Performs content asked performed → status ≡ 2 → Finishes performed faults faults_now given given_now status → IsRefusedCommand content (Some asked)
+refused content (Check base new properties) performed faults faults_now given given_now status performs two f =
+    refuses IsReport (check_inputs content base new properties) performed faults faults_now given given_now status performs two f
+refused content (Stable bundle labels) performed faults faults_now given given_now status performs two f =
+    refuses IsStability (stable_inputs content bundle labels) performed faults faults_now given given_now status performs two f
+
+-- a beginning of a text, where the status is 5 and not the one that was wanted
+cut : (wanted : ℕ) (text : List ℕ) (faults faults_now : ℕ) (given given_now : Option (List ℕ)) (status : ℕ) → wanted ≤ 4 → status ≡ 5 → IsWritten wanted text faults faults_now given given_now status → IsPartBehind text given given_now
+cut wanted text faults faults_now given given_now status low five (inl w) = absurd (let wanted_is = w.ends in omega arith)
+cut wanted text faults faults_now given given_now status low five (inr w) = w.told
+
+low : (good : Bool) → status_of good ≤ 4
+low true = omega arith
+low false = omega arith
+
+pub part : (content : Option Content) (asked : Asked) (performed : Result Answer Stop) (read read_now faults faults_now : ℕ) (given given_now : Option (List ℕ)) (status : ℕ) → HasCause read read_now performed → ((c : Content) → content ≡ Some c → Performs c asked performed) → status ≡ 5 → Finishes performed faults faults_now given given_now status → HasPart content (Some asked) read read_now given given_now
+part content asked (Ok answer) read read_now faults faults_now given given_now status cause performs five f = record {
+  text = answer.text;
+  meant = inl (λ c e. (status_of answer.good, answer_of c asked answer (status_of answer.good) (performs c e) (λ i. status_of answer.good)));
+  told = cut (status_of answer.good) answer.text faults faults_now given given_now status (low answer.good) five f;
+}
+part content asked (Err (Refused line)) read read_now faults faults_now given given_now status cause performs five f = record {
+  text = line;
+  meant = inl (λ c e. (2, refusal_of c asked line 2 (performs c e) (λ i. 2)));
+  told = cut 2 line faults faults_now given given_now status (omega arith) five f;
+}
+part content asked (Err ReadFault) read read_now faults faults_now given given_now status cause performs five f = record {
+  text = read_fault_line;
+  meant = inr ((λ i. read_fault_line), cause.1);
+  told = cut 4 read_fault_line faults faults_now given given_now status (omega arith) five f;
+}
+part content asked (Err NoMemory) read read_now faults faults_now given given_now status cause performs five f = absurd (let eight = f.ends in omega arith)
+
+pub usage_part : (content : Option Content) (read read_now : ℕ) (wanted : ℕ) (text : List ℕ) (faults faults_now : ℕ) (given given_now : Option (List ℕ)) (status : ℕ) → wanted ≡ 3 → text ≡ usage_line → status ≡ 5 → IsWritten wanted text faults faults_now given given_now status → HasPart content None read read_now given given_now
+usage_part content read read_now wanted text faults faults_now given given_now status three line five w = record {
+  text = text;
+  meant = line;
+  told = cut wanted text faults faults_now given given_now status (omega arith) five w;
+}
+
+-- the counts of faults
+
+pub read_still : (performed : Result Answer Stop) (read read_now faults faults_now : ℕ) (given given_now : Option (List ℕ)) (status : ℕ) → HasCause read read_now performed → Finishes performed faults faults_now given given_now status → (status ≡ 4 → ⊥) → (status ≡ 5 → ⊥) → read_now ≡ read
+read_still (Ok answer) read read_now faults faults_now given given_now status cause f quiet calm = cause
+read_still (Err (Refused line)) read read_now faults faults_now given given_now status cause f quiet calm = cause
+read_still (Err ReadFault) read read_now faults faults_now given given_now status cause (inl w) quiet calm = absurd (quiet w.ends)
+read_still (Err ReadFault) read read_now faults faults_now given given_now status cause (inr w) quiet calm = absurd (calm w.ends)
+read_still (Err NoMemory) read read_now faults faults_now given given_now status cause f quiet calm = cause
+
+pub read_kept : (performed : Result Answer Stop) (read read_now : ℕ) → HasCause read read_now performed → read ≤ read_now
+read_kept (Ok answer) read read_now cause = let still : read_now ≡ read = cause in omega arith
+read_kept (Err (Refused line)) read read_now cause = let still : read_now ≡ read = cause in omega arith
+read_kept (Err ReadFault) read read_now cause = cause.0
+read_kept (Err NoMemory) read read_now cause = let still : read_now ≡ read = cause in omega arith
+
+pub written_still : (wanted : ℕ) (text : List ℕ) (faults faults_now : ℕ) (given given_now : Option (List ℕ)) (status : ℕ) → IsWritten wanted text faults faults_now given given_now status → (status ≡ 5 → ⊥) → faults_now ≡ faults
+written_still wanted text faults faults_now given given_now status (inl w) calm = w.still
+written_still wanted text faults faults_now given given_now status (inr w) calm = absurd (calm w.ends)
+
+pub write_still : (performed : Result Answer Stop) (faults faults_now : ℕ) (given given_now : Option (List ℕ)) (status : ℕ) → Finishes performed faults faults_now given given_now status → (status ≡ 5 → ⊥) → faults_now ≡ faults
+write_still (Ok answer) faults faults_now given given_now status f calm = written_still (status_of answer.good) answer.text faults faults_now given given_now status f calm
+write_still (Err (Refused line)) faults faults_now given given_now status f calm = written_still 2 line faults faults_now given given_now status f calm
+write_still (Err ReadFault) faults faults_now given given_now status f calm = written_still 4 read_fault_line faults faults_now given given_now status f calm
+write_still (Err NoMemory) faults faults_now given given_now status f calm = f.still
+
+pub written_kept : (wanted : ℕ) (text : List ℕ) (faults faults_now : ℕ) (given given_now : Option (List ℕ)) (status : ℕ) → IsWritten wanted text faults faults_now given given_now status → faults ≤ faults_now
+written_kept wanted text faults faults_now given given_now status (inl w) = let still = w.still in omega arith
+written_kept wanted text faults faults_now given given_now status (inr w) = w.kept
+
+pub write_kept : (performed : Result Answer Stop) (faults faults_now : ℕ) (given given_now : Option (List ℕ)) (status : ℕ) → Finishes performed faults faults_now given given_now status → faults ≤ faults_now
+write_kept (Ok answer) faults faults_now given given_now status f = written_kept (status_of answer.good) answer.text faults faults_now given given_now status f
+write_kept (Err (Refused line)) faults faults_now given given_now status f = written_kept 2 line faults faults_now given given_now status f
+write_kept (Err ReadFault) faults faults_now given given_now status f = written_kept 4 read_fault_line faults faults_now given given_now status f
+write_kept (Err NoMemory) faults faults_now given given_now status f = let still = f.still in omega arith

@@ -1,0 +1,140 @@
+-- What the program does with its words: its text, and its status.
+use Rattle.std.specs.Prelude.{ℕ, ◌≡◌, ◌≤◌, ◌<◌, ◌⊎◌, ◌++◌, Bool, List as Seq, length, take, codes, Option, Some, None, Result, Ok, Err, if◌then◌else◌}
+use Rattle.outside.specs.Content.{Content}
+use Rattle.outside.specs.Faults.{Rose}
+use Rattle.commands.specs.declared.answer.Answer.{Answer}
+use Rattle.commands.specs.declared.stop.Stop.{Stop}
+use Rattle.commands.specs.declared.stop.Stop.TheVariants.{Refused, ReadFault, NoMemory}
+use Rattle.commands.specs.Commands.{Asked, Check, Stable}
+use Rattle.commands.specs.Ending.{IsReport, check_inputs}
+use Rattle.commands.specs.StableEnding.{IsStability, stable_inputs}
+use Rattle.commands.specs.Stops.{Comes}
+
+-- the line of words that are no command
+unfoldable pub usage_line : Seq ℕ
+usage_line = codes "usage: check BASE NEW PROPS [WORKERS] | stable BUNDLE LABELS | serve DB PORT COUNT USERS [WORKERS] | gen N [WORKERS]\n"
+
+-- the line of a shelf that failed
+unfoldable pub read_fault_line : Seq ℕ
+read_fault_line = codes "read fault\n"
+
+-- 0 where the answer is good, else 1
+abbrev pub status_of : Bool → ℕ
+status_of good = if good then 0 else 1
+
+-- a command was answered on its inputs
+pub record IsAnswered (Is : Seq ℕ → Bool → Type 0) (text : Seq ℕ) (status : ℕ) : Type 0 where
+  pub good : Bool
+  pub answer : Is text good
+  pub status_is : status ≡ status_of good
+
+-- a step of it refused with this line
+pub record IsRefused (line text : Seq ℕ) (status : ℕ) : Type 0 where
+  pub text_is : text ≡ line
+  pub status_is : status ≡ 2
+
+-- the text and the status of a command by what its steps came to: its answer on its inputs, or the line of
+-- the step that refused
+abbrev pub IsEnding : {A : Type 0} → (A → Seq ℕ → Bool → Type 0) → Result A (Seq ℕ) → Seq ℕ → ℕ → Type 0
+IsEnding Is (Ok inputs) text status = IsAnswered (Is inputs) text status
+IsEnding Is (Err line) text status = IsRefused line text status
+
+-- the text and the status of a command over this content
+abbrev pub IsAnswerOf : Content → Asked → Seq ℕ → ℕ → Type 0
+IsAnswerOf content (Check base new properties) = IsEnding IsReport (check_inputs content base new properties)
+IsAnswerOf content (Stable bundle labels) = IsEnding IsStability (stable_inputs content bundle labels)
+
+-- what a command comes to, before it is written
+abbrev pub Performs : Content → Asked → Result Answer Stop → Type 0
+Performs content (Check base new properties) = Comes IsReport (check_inputs content base new properties)
+Performs content (Stable bundle labels) = Comes IsStability (stable_inputs content bundle labels)
+
+-- the answer of a command over this content, written behind what the sink held before
+pub record HasAnswered (content : Content) (asked : Asked) (before : Seq ℕ) (after : Option (Seq ℕ)) (status : ℕ) : Type 0 where
+  pub text : Seq ℕ
+  pub answer : IsAnswerOf content asked text status
+  pub written : after ≡ Some (before ++ text)
+
+-- the status is that of want of memory, and nothing was written
+pub record HasNoMemory (before : Seq ℕ) (after : Option (Seq ℕ)) (status : ℕ) : Type 0 where
+  pub status_is : status ≡ 8
+  pub written : after ≡ Some before
+
+-- the words are no command
+pub record HasUsage (before : Seq ℕ) (after : Option (Seq ℕ)) (status : ℕ) : Type 0 where
+  pub status_is : status ≡ 3
+  pub written : after ≡ Some (before ++ usage_line)
+
+-- what a run comes to over this content where its status is not that of a failure: a command answers with its
+-- defined text and status, or ends with the status of want of memory and wrote nothing; other words are answered by
+-- the usage line
+abbrev pub Answers : Content → Option Asked → Seq ℕ → Option (Seq ℕ) → ℕ → Type 0
+Answers content None before after status = HasUsage before after status
+Answers content (Some asked) before after status = HasAnswered content asked before after status ⊎ HasNoMemory before after status
+
+-- a text is behind what the sink held before
+abbrev pub IsBehind : Seq ℕ → Option (Seq ℕ) → Option (Seq ℕ) → Type 0
+IsBehind text given given_now = (before : Seq ℕ) → given ≡ Some before → given_now ≡ Some (before ++ text)
+
+-- a beginning of a text, and not all of it, is behind what the sink held before
+abbrev pub IsPartBehind : Seq ℕ → Option (Seq ℕ) → Option (Seq ℕ) → Type 0
+IsPartBehind text given given_now = (before : Seq ℕ) → given ≡ Some before →
+    (k : ℕ) × (k < length text) × (given_now ≡ Some (before ++ take k text))
+
+-- a whole text was written, no call of the sink failed, and the status is this one
+pub record IsWhole (wanted : ℕ) (text : Seq ℕ) (faults faults_now : ℕ) (given given_now : Option (Seq ℕ)) (status : ℕ) : Type 0 where
+  pub ends : status ≡ wanted
+  pub still : faults_now ≡ faults
+  pub told : IsBehind text given given_now
+
+-- a call of the sink failed behind a beginning of the text, and the status is 5
+pub record IsCut (text : Seq ℕ) (faults faults_now : ℕ) (given given_now : Option (Seq ℕ)) (status : ℕ) : Type 0 where
+  pub ends : status ≡ 5
+  pub kept : faults ≤ faults_now
+  pub rose : Rose faults faults_now
+  pub told : IsPartBehind text given given_now
+
+abbrev pub IsWritten : ℕ → Seq ℕ → ℕ → ℕ → Option (Seq ℕ) → Option (Seq ℕ) → ℕ → Type 0
+IsWritten wanted text faults faults_now given given_now status =
+    IsWhole wanted text faults faults_now given given_now status ⊎ IsCut text faults faults_now given given_now status
+
+-- nothing was written, no call of the sink failed, and the status is that of want of memory
+pub record IsSilent (faults faults_now : ℕ) (given given_now : Option (Seq ℕ)) (status : ℕ) : Type 0 where
+  pub ends : status ≡ 8
+  pub still : faults_now ≡ faults
+  pub told : given_now ≡ given
+
+-- how a command that came to this is ended
+abbrev pub Finishes : Result Answer Stop → ℕ → ℕ → Option (Seq ℕ) → Option (Seq ℕ) → ℕ → Type 0
+Finishes (Ok answer) faults faults_now given given_now status = IsWritten (status_of answer.good) answer.text faults faults_now given given_now status
+Finishes (Err (Refused line)) faults faults_now given given_now status = IsWritten 2 line faults faults_now given given_now status
+Finishes (Err ReadFault) faults faults_now given given_now status = IsWritten 4 read_fault_line faults faults_now given given_now status
+Finishes (Err NoMemory) faults faults_now given given_now status = IsSilent faults faults_now given given_now status
+
+-- the text that a run means to write: the usage line; or the text of the command's answer over the content that is
+-- told; or that the files failed, where their count of faults rose
+abbrev pub IsAnswerText : Option Content → Asked → Seq ℕ → Type 0
+IsAnswerText content asked text = (c : Content) → content ≡ Some c → (status : ℕ) × IsAnswerOf c asked text status
+
+abbrev pub IsMeant : Option Content → Option Asked → ℕ → ℕ → Seq ℕ → Type 0
+IsMeant content None faults faults_now text = text ≡ usage_line
+IsMeant content (Some asked) faults faults_now text = IsAnswerText content asked text ⊎ ((text ≡ read_fault_line) × Rose faults faults_now)
+
+-- a beginning of that text was written
+pub record HasPart (content : Option Content) (asked : Option Asked) (faults faults_now : ℕ) (given given_now : Option (Seq ℕ)) : Type 0 where
+  pub text : Seq ℕ
+  pub meant : IsMeant content asked faults faults_now text
+  pub told : IsPartBehind text given given_now
+
+-- the words are a command whose steps refuse over this content
+abbrev pub Refuses : {A : Type 0} → Result A (Seq ℕ) → Type 0
+Refuses value = (line : Seq ℕ) × (value ≡ Err line)
+
+abbrev pub IsRefusedCommand : Content → Option Asked → Type 0
+IsRefusedCommand content None = ⊥
+IsRefusedCommand content (Some (Check base new properties)) = Refuses (check_inputs content base new properties)
+IsRefusedCommand content (Some (Stable bundle labels)) = Refuses (stable_inputs content bundle labels)
+
+-- the statuses that a run can end with
+abbrev pub IsStatus : ℕ → Type 0
+IsStatus status = (status ≤ 5) ⊎ (status ≡ 8)

@@ -1,0 +1,41 @@
+-- What a step of a command answers: its value, or the line of its refusal.
+use Rattle.std.specs.Prelude.{ℕ, ◌≡◌, ◌≤◌, Bool, List as Seq, Result, Ok, Err}
+use Rattle.outside.specs.Faults.{Rose}
+use Rattle.commands.specs.declared.answer.Answer.{Answer}
+use Rattle.commands.specs.declared.stop.Stop.{Stop}
+use Rattle.commands.specs.declared.stop.Stop.TheVariants.{Refused, ReadFault, NoMemory}
+
+-- the answer is the step's value or its refusal, unless the shelf failed or there was no memory
+abbrev pub Gives : {A : Type 0} → Result A (Seq ℕ) → Result A Stop → Type 0
+Gives value (Ok found) = value ≡ Ok found
+Gives value (Err (Refused line)) = value ≡ Err line
+Gives value (Err ReadFault) = Unit {0}
+Gives value (Err NoMemory) = Unit {0}
+
+-- the count of the shelf's faults by the answer: it rose where the answer is that the shelf failed, and else stands,
+-- so no call that failed is tried again or passed over
+abbrev pub HasCause : {A : Type 0} → ℕ → ℕ → Result A Stop → Type 0
+HasCause before now (Ok found) = now ≡ before
+HasCause before now (Err (Refused line)) = now ≡ before
+HasCause before now (Err ReadFault) = (before ≤ now) × Rose before now
+HasCause before now (Err NoMemory) = now ≡ before
+
+-- the answer is not that the shelf failed
+abbrev pub IsCalm : {A : Type 0} → Result A Stop → Type 0
+IsCalm (Ok found) = Unit {0}
+IsCalm (Err (Refused line)) = Unit {0}
+IsCalm (Err ReadFault) = ⊥
+IsCalm (Err NoMemory) = Unit {0}
+
+-- a stop with this line, unless there was no memory for it
+abbrev pub StopsAt : Seq ℕ → Stop → Type 0
+StopsAt wanted (Refused line) = line ≡ wanted
+StopsAt wanted ReadFault = ⊥
+StopsAt wanted NoMemory = Unit {0}
+
+-- what a command comes to: the answer on its inputs, or the line of the step that refuses
+abbrev pub Comes : {A : Type 0} → (A → Seq ℕ → Bool → Type 0) → Result A (Seq ℕ) → Result Answer Stop → Type 0
+Comes {A} Is value (Ok answer) = (inputs : A) × (value ≡ Ok inputs) × Is inputs answer.text answer.good
+Comes Is value (Err (Refused line)) = value ≡ Err line
+Comes Is value (Err ReadFault) = Unit {0}
+Comes Is value (Err NoMemory) = Unit {0}

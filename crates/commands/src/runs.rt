@@ -1,0 +1,102 @@
+//! The top call: what the program does with its words.
+
+ghost use Rattle.std.specs.Prelude.{◌≡◌, ◌≤◌, ◌⊎◌, ℕ, List as Seq, Some, None, option_map};
+ghost use Rattle.outside.specs.Content.{Content};
+ghost use Rattle.outside.specs.Faults.{Rose};
+ghost use Rattle.commands.specs.Asked.{asked};
+ghost use Rattle.commands.specs.Commands.{command_of};
+ghost use Rattle.commands.specs.Running.{Answers, Finishes, HasPart, IsBehind, IsRefusedCommand, IsStatus, IsWritten, Performs, read_fault_line, status_of, usage_line};
+ghost use Rattle.commands.specs.Stops.{HasCause};
+
+use crate::answer::Answer;
+use crate::check::check;
+use crate::command::{Command, command_of};
+use crate::stable::stable;
+use crate::status::Status;
+use crate::stop::Stop;
+use net_types::Text;
+use outside::{Shelf, Sink, give_all};
+use std::alloc::Global;
+
+/// What is printed where the words are no command.
+const USAGE: &str =
+    "usage: check BASE NEW PROPS [WORKERS] | stable BUNDLE LABELS | serve DB PORT COUNT USERS [WORKERS] | gen N [WORKERS]\n";
+
+// Writes a text, and ends with this status or with that of a sink that failed.
+fn write<O: Sink>(out: &mut O, text: &[u8], status: Status) -> Status
+    ensures { IsWritten status text.now (O.faults out.old) (O.faults out.new) (O.given out.old) (O.given out.new) result }
+{
+    match give_all(out, text) {
+        Ok(()) => status,
+        Err(_) => Status::new(5),
+    }
+}
+
+fn status_of(good: bool) -> Status
+    ensures { result ≡ status_of good }
+{
+    if good { Status::new(0) } else { Status::new(1) }
+}
+
+// Writes what a command came to.
+#[tactic(auto, unfolding(crate::specs::Running::read_fault_line))]
+fn finish<O: Sink>(out: &mut O, performed: Result<Answer, Stop>) -> Status
+    ensures { Finishes performed (O.faults out.old) (O.faults out.new) (O.given out.old) (O.given out.new) result }
+{
+    match performed {
+        Ok(answer) => write(out, answer.text.as_bytes(), status_of(answer.good)),
+        Err(Stop::Refused(line)) => write(out, line.as_bytes(), Status::new(2)),
+        Err(Stop::ReadFault) => write(out, b"read fault\n", Status::new(4)),
+        Err(Stop::NoMemory) => Status::new(8),
+    }
+}
+
+// Does what a command asks.
+fn perform<F: Shelf>(alloc: Global, shelf: &mut F, command: Command<'_>) -> Result<Answer, Stop>
+    ensures cause { HasCause (F.faults shelf.old) (F.faults shelf.new) result }
+    ensures same { F.content shelf.new ≡ F.content shelf.old }
+    ensures told { (c : Content) → F.content shelf.old ≡ Some c → Performs c (asked command.entry) result }
+{
+    match command {
+        Command::Check {
+            base,
+            new,
+            properties,
+        } => check(alloc, shelf, base, new, properties),
+        Command::Stable { bundle, labels } => stable(alloc, shelf, bundle, labels),
+    }
+}
+
+/// Does what the words ask, and answers with the exit status. Words are read by hand: they are a command
+/// exactly where they are `check` and three words, or `stable` and two, none of which is empty or begins with `-`.
+///
+/// What is written, and the status, is that of `specs/Running.antt`. The status is 4 only where a call of
+/// the shelf failed, and 5 only where one of the sink did; no call failed where the status is neither. At 5 a
+/// beginning of the text was written, at 8 nothing.
+#[tactic(auto, unfolding(crate::specs::Running::usage_line))]
+pub fn run<F: Shelf, O: Sink>(alloc: Global, words: &[Text], shelf: &mut F, out: &mut O) -> Status
+    ensures answer { (c : Content) (before : Seq ℕ) → F.content shelf.old ≡ Some c → O.given out.old ≡ Some before →
+        (result ≡ 4 → ⊥) → (result ≡ 5 → ⊥) → Answers c (command_of words.now) before (O.given out.new) result }
+    ensures refused { (c : Content) → F.content shelf.old ≡ Some c → result ≡ 2 → IsRefusedCommand c (command_of words.now) }
+    ensures usage { result ≡ 3 → command_of words.now ≡ None }
+    ensures no_command { command_of words.now ≡ None → (result ≡ 3) ⊎ (result ≡ 5) }
+    ensures usage_text { result ≡ 3 → IsBehind usage_line (O.given out.old) (O.given out.new) }
+    ensures read_fault_text { result ≡ 4 → IsBehind read_fault_line (O.given out.old) (O.given out.new) }
+    ensures written_part { result ≡ 5 → HasPart (F.content shelf.old) (command_of words.now) (F.faults shelf.old) (F.faults shelf.new) (O.given out.old) (O.given out.new) }
+    ensures read_fault { result ≡ 4 → Rose (F.faults shelf.old) (F.faults shelf.new) }
+    ensures write_fault { result ≡ 5 → Rose (O.faults out.old) (O.faults out.new) }
+    ensures silent { result ≡ 8 → O.given out.new ≡ O.given out.old }
+    ensures read_still { (result ≡ 4 → ⊥) → (result ≡ 5 → ⊥) → F.faults shelf.new ≡ F.faults shelf.old }
+    ensures write_still { (result ≡ 5 → ⊥) → O.faults out.new ≡ O.faults out.old }
+    ensures kept { (F.faults shelf.old ≤ F.faults shelf.new) × (O.faults out.old ≤ O.faults out.new) }
+    ensures same { F.content shelf.new ≡ F.content shelf.old }
+    ensures known { IsStatus result }
+{
+    match command_of(words) {
+        Some(command) => {
+            let performed = perform(alloc, shelf, command);
+            finish(out, performed)
+        }
+        None => write(out, USAGE.as_bytes(), Status::new(3)),
+    }
+}

@@ -1,0 +1,196 @@
+//! Labels of a triangle of routers: a worked file, and a case of each refusal.
+
+mod fields;
+mod files;
+
+use label_file::{Labels, read_labels};
+use net_types::{Arc, BundleRefusal, FormRefusal, Net, Origin, Route, Source};
+use std::alloc::Global;
+use std::process::Abort;
+use std::test::Fail;
+use test_networks::network_of;
+
+// Routers a, b and d, each with a session to each other one.
+const TRIANGLE: [&str; 3] = [
+    "hostname a
+interface e0
+ ip address 10.0.0.1/24
+interface e1
+ ip address 10.0.1.1/24
+router bgp 65001
+ neighbor 10.0.0.2 remote-as 65002
+ neighbor 10.0.1.3 remote-as 65003
+",
+    "hostname b
+interface e0
+ ip address 10.0.0.2/24
+interface e2
+ ip address 10.0.2.2/24
+router bgp 65002
+ neighbor 10.0.0.1 remote-as 65001
+ neighbor 10.0.2.3 remote-as 65003
+",
+    "hostname d
+interface e1
+ ip address 10.0.1.3/24
+interface e2
+ ip address 10.0.2.3/24
+router bgp 65003
+ neighbor 10.0.1.1 remote-as 65001
+ neighbor 10.0.2.2 remote-as 65002
+",
+];
+
+// Their network: a, b and d are 0 to 2, and links 0 to 2 are between 0 and 1, 0 and 2, 1 and 2.
+fn triangle(alloc: Global) -> Result<Net, BundleRefusal> {
+    network_of(alloc, &TRIANGLE, 3)
+}
+
+// d originates the prefix, a has it from d, and b has it through a.
+const THROUGH_A: &str = r#"
+prefix = "10.9.0.0/24"
+[[label]]
+router = "d"
+source = "local"
+weight = 32768
+preference = 100
+path = []
+origin = "igp"
+med = 0
+communities = []
+[[label]]
+router = "a"
+source = "learned"
+link = 1
+weight = 0
+preference = 100
+path = ["d"]
+origin = "igp"
+med = 0
+communities = []
+[[label]]
+router = "b"
+source = "learned"
+link = 0
+weight = 0
+preference = 200
+path = ["a", "d"]
+origin = "igp"
+med = 0
+communities = ["no-advertise"]
+"#;
+
+// A file, and how it is refused.
+struct Refused<'a> {
+    name: &'a str,
+    text: &'a str,
+    wanted: FormRefusal,
+}
+
+const REFUSED: [Refused; 8] = [
+    Refused {
+        name: "no TOML",
+        text: "prefix =",
+        wanted: FormRefusal::NotToml,
+    },
+    Refused {
+        name: "no prefix",
+        text: "",
+        wanted: FormRefusal::BadField(0),
+    },
+    Refused {
+        name: "a failed link that is not there",
+        text: "prefix = \"10.9.0.0/24\"\ndown = [9]",
+        wanted: FormRefusal::BadField(0),
+    },
+    Refused {
+        name: "failed links out of order",
+        text: "prefix = \"10.9.0.0/24\"\ndown = [1, 0]",
+        wanted: FormRefusal::BadField(0),
+    },
+    Refused {
+        name: "a link with no end at the router",
+        text: r#"
+prefix = "10.9.0.0/24"
+label = [
+  { router = "d", source = "local", weight = 0, preference = 100, path = [], origin = "igp", med = 0, communities = [] },
+  { router = "a", source = "learned", link = 2, weight = 0, preference = 100, path = ["d"], origin = "igp", med = 0, communities = [] },
+]"#,
+        wanted: FormRefusal::BadField(2),
+    },
+    Refused {
+        name: "a link of a local label",
+        text: r#"
+prefix = "10.9.0.0/24"
+label = [{ router = "d", source = "local", link = 1, weight = 0, preference = 100, path = [], origin = "igp", med = 0, communities = [] }]"#,
+        wanted: FormRefusal::BadField(1),
+    },
+    Refused {
+        name: "a community that the network has not",
+        text: r#"
+prefix = "10.9.0.0/24"
+label = [{ router = "d", source = "local", weight = 0, preference = 100, path = [], origin = "igp", med = 0, communities = ["65000:1"] }]"#,
+        wanted: FormRefusal::BadField(1),
+    },
+    Refused {
+        name: "two labels of one router",
+        text: r#"
+prefix = "10.9.0.0/24"
+label = [
+  { router = "d", source = "local", weight = 0, preference = 100, path = [], origin = "igp", med = 0, communities = [] },
+  { router = "d", source = "local", weight = 1, preference = 100, path = [], origin = "egp", med = 0, communities = [] },
+]"#,
+        wanted: FormRefusal::SameName(2),
+    },
+];
+
+// Compares a route with what is wanted.
+fn compare(rt: &impl Abort, route: &Option<Route>, source: Source, path: &[u8], preference: u32) {
+    match route {
+        Some(route) => {
+            assert_eq!(rt; route.source, source);
+            assert_eq!(rt; route.path.as_slice(), path);
+            assert_eq!(rt; route.preference, preference);
+            assert_eq!(rt; route.origin, Origin::Igp);
+        }
+        None => assert!(rt; false, "no route"),
+    }
+}
+
+fn arc(link: u8, down: bool) -> Source {
+    Source::Learned(Arc { link, down })
+}
+
+#[test]
+fn worked_labels(rt: HostRuntime) -> Result<(), Fail> {
+    let net = triangle(rt.alloc())?;
+    let read = read_labels(rt.alloc(), &net, THROUGH_A.as_bytes());
+    let Ok(labels) = read else {
+        return Err("refused")?;
+    };
+    assert!(rt; labels.failed.as_slice().is_empty());
+    let [a, b, d] = labels.labels.as_slice() else {
+        return Err("not three")?;
+    };
+    compare(&rt, a, arc(1, true), &[2], 100);
+    compare(&rt, b, arc(0, false), &[0, 2], 200);
+    compare(&rt, d, Source::Local, &[], 100);
+    Ok(())
+}
+
+fn refusal_of(read: Result<Labels, FormRefusal>) -> Option<FormRefusal> {
+    match read {
+        Ok(_) => None,
+        Err(refusal) => Some(refusal),
+    }
+}
+
+#[test]
+fn labels_refused(rt: HostRuntime) -> Result<(), Fail> {
+    let net = triangle(rt.alloc())?;
+    for case in &REFUSED {
+        let read = read_labels(rt.alloc(), &net, case.text.as_bytes());
+        assert_eq!(rt; refusal_of(read), Some(case.wanted), "{}", case.name);
+    }
+    Ok(())
+}

@@ -1,7 +1,0 @@
-use Rattle.std.proofs.Common.{◌∙◌}
-use Rattle.route_desk.proofs.StopLemmas.{cause-calm}
-use Rattle.route_desk.proofs.check.check_inputs.Goals as goal
-
-pub returns-clause-cause : goal.returns-clause-cause
-returns-clause-cause g c =
-    cause-calm _ _ c.inputs_of.result c.inputs_of.ensures.calm (c.in_ok-text.ensures.cause ∙ (c.in_ok-new.ensures.cause ∙ c.in_ok-base.ensures.cause))
