@@ -1,4 +1,5 @@
-//! Tests of whole runs: the words, the files and the output of a run, all in memory.
+//! Tests of the program: whole runs, with words, files and output in memory, and the networks, reports and texts of
+//! refusals of such runs.
 #![tactic(auto)]
 
 #[cfg(test)]

@@ -1,4 +1,4 @@
-//! Runs of the program over folders in memory.
+//! Runs of the program over folders in memory, and what they are made of.
 
 use commands::run;
 use net_types::{List, NoMemory, SourceFile, Text};

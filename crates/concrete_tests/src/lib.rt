@@ -1,4 +1,5 @@
-//! Tests of routes: sets of failed links, paths of OSPF, and what policies make of routes, on rows worked out by hand.
+//! Tests of routes: sets of failed links, paths of OSPF, what policies make of routes, and which labellings are
+//! stable, on rows worked out by hand.
 #![tactic(auto)]
 
 #[cfg(test)]

@@ -17,7 +17,7 @@ fn prefix() -> Prefix {
 enum Has {
     // Nothing of its own.
     Nothing,
-    // A loopback in the prefix, which has cost 0.
+    // An OSPF loopback whose subnet is the prefix, at cost 0.
     Loopback,
     // An OSPF stub of the prefix at this cost.
     Stub(u16),
@@ -78,7 +78,7 @@ fn ends_of(
     ))
 }
 
-// A router of two links or more.
+// A router of two links, or of three.
 fn router(
     alloc: Global,
     host: &str,
@@ -91,7 +91,7 @@ fn router(
 }
 
 // Routers a, b and c that have these, and links 0 to 3 as these say: between a and b, a and c, b and c, and
-// b and c again.
+// b and c again. In their configurations they are 1 to 3.
 fn triangle(alloc: Global, has: [Has; 3], ends: [Ends; 4]) -> Result<Net, BundleRefusal> {
     let (a_0, b_0) = ends_of(alloc, 0, 1, 2, ends[0])?;
     let (a_1, c_1) = ends_of(alloc, 1, 1, 3, ends[1])?;

@@ -10,7 +10,8 @@ use std::process::Abort;
 use std::test::Fail;
 use test_networks::network_of;
 
-// Routers a, b and d, each with a session to each other one.
+// Routers a, b and d, each with a session to each other one. Without maps their policies are closed, which no label
+// asks.
 const TRIANGLE: [&str; 3] = [
     "hostname a
 interface e0

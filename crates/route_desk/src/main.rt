@@ -1,6 +1,6 @@
 //! The route desk: certifies changes of routing.
 //!
-//! Decides: which words, files and output the command gets: the program's own.
+//! Decides: which words, files and output `run` gets: those of the machine.
 //! Stands on: `commands` for what is done with them, `outside` for the files and the output.
 //! Promises: nothing of its own; what is done is that of `run` of `commands`.
 #![tactic(auto)]

@@ -1,6 +1,8 @@
 //! Networks of small configurations, for the tests of several crates.
 //!
-//! Stands on: `bundle_reader`, which reads them. Promises: so many routers as are asked for.
+//! Decides: nothing of its own.
+//! Stands on: `bundle_reader`, which reads them.
+//! Promises: as many routers as are asked for, or a refusal.
 #![tactic(auto)]
 
 ghost use Rattle.std.specs.Prelude.{◌≡◌, IfOk, length};
@@ -9,7 +11,8 @@ use bundle_reader::read_bundle;
 use net_types::{BundleRefusal, List, Net, NetRefusal, SourceFile, Text};
 use std::alloc::Global;
 
-/// The network of these configurations, which is refused where it has not so many routers.
+/// The network of these configurations; another number of routers than this is refused, with that number, so that a
+/// caller knows how many there are.
 pub fn network_of(alloc: Global, texts: &[&str], routers: usize) -> Result<Net, BundleRefusal>
     ensures { IfOk result (λ net. length net.routers ≡ routers) }
 {

@@ -9,7 +9,6 @@ use super::three_routers::{
 use abstract_maps::{is_open, passes, transfer};
 use abstract_route::{BOTTOM, Range, Row};
 use net_types::{Arc, Bits64, Net, Prefix};
-use std::process::Abort;
 use std::test::Fail;
 
 /// A row: the ends of five ranges, and four sets as words.

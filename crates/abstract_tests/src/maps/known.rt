@@ -8,9 +8,8 @@ use super::preferring::is_in;
 use abstract_maps::{run_map_abs, sure};
 use abstract_route::{BOTTOM, Range, Row};
 use concrete_algebra::run_map;
-use net_types::{Bits64, BundleRefusal, List, Origin, Policy, Prefix, Route, Source};
+use net_types::{Bits64, List, Origin, Policy, Prefix, Route, Source};
 use std::alloc::Global;
-use std::process::Abort;
 use std::test::Fail;
 
 fn single(number: u64) -> Range
@@ -279,7 +278,7 @@ fn fits(given: Option<&Route>, after: &Row, is_sure: bool) -> bool {
 }
 
 // Whether each route of the case is in its row, and what the map gives of it fits.
-fn all_fit(alloc: Global, case: &Case) -> Result<bool, BundleRefusal> {
+fn all_fit(alloc: Global, case: &Case) -> Result<bool, Fail> {
     let net = network(alloc, case.permit, case.line)?;
     let policy = Policy::Map(0);
     let prefix = prefix_of(case);

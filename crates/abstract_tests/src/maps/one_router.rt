@@ -7,8 +7,8 @@ use net_types::{BundleRefusal, Net};
 use std::alloc::Global;
 use test_networks::network_of;
 
-/// The network of the router, whose map's first entry is for what both lists permit: a permit with this line, or a
-/// deny.
+/// The network of the router. The first entry of its map, a permit or a deny, is for what both lists permit, and has
+/// this line; the second sets local preference 50 for every route.
 pub(super) fn network(alloc: Global, permit: bool, line: &str) -> Result<Net, BundleRefusal>
     ensures { IfOk result (λ net. length net.routers ≡ 1) }
 {

@@ -7,7 +7,6 @@ use abstract_route::{BOTTOM, Range, Row, contains};
 use concrete_algebra::{export, import, local_route};
 use net_types::{Arc, Bits64, BundleRefusal, Net, Prefix, Route};
 use std::alloc::Global;
-use std::process::Abort;
 use std::test::Fail;
 use test_networks::network_of;
 
@@ -16,7 +15,7 @@ fn prefix() -> Prefix {
     Prefix::masked(0x0A09_0000, 24)
 }
 
-// A router that prefers what it has from the other of the two.
+// Routers a and b: each prefers what it has from the other.
 const A: &str = "hostname a
 interface e0
  ip address 10.0.0.1/24

@@ -1,5 +1,6 @@
 //! A network of three routers and of sessions with policies of many kinds. Communities 0 and 1 are 65000:1 and
-//! 65000:2, community 2 is NO_EXPORT, and community 3 NO_ADVERTISE.
+//! 65000:2, community 2 is NO_EXPORT, and community 3 NO_ADVERTISE. List NOT-ONE denies community 0 before it would
+//! permit it.
 
 use net_types::{BundleRefusal, Net, NoMemory};
 use std::alloc::Global;
@@ -79,7 +80,7 @@ pub(super) const A_AND_D: u8 = 13;
 /// Between routers b and d.
 pub(super) const B_AND_D: u8 = 14;
 
-/// No session.
+/// No session, and so closed policies at both ends.
 pub(super) const SILENT: u8 = 15;
 
 // The maps at both ends of links 0 to 12: for what goes out, and for what comes in.
@@ -144,7 +145,7 @@ fn sessions(alloc: Global, number: u8, other: u8) -> Result<String, NoMemory> {
     Ok(text)
 }
 
-// Router a or b: its ends of links 0 to 12, to d over this link, and of the link without a session.
+// Router a or b, which has number 1 or 2 in addresses and in its AS: its ends of links 0 to 12, to d over this link, and of the link without a session.
 fn router(
     alloc: Global,
     host: &str,

@@ -2,7 +2,6 @@
 
 use super::arcs::{ALL_BUT_2, Case, Known, LEARNED, MAYBE, PASSED, is_as_wanted};
 use super::three_routers::{A_AND_D, B_AND_D, STAMPED, network};
-use std::process::Abort;
 use std::test::Fail;
 
 // What a router originates.

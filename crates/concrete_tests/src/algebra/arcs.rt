@@ -173,7 +173,7 @@ static IMPORTS: [Case; 6] = [
     },
 ];
 
-// What a map that sets these makes of what is sent.
+// What a map with these lines makes of what is sent.
 #[derive(Clone, Copy)]
 struct MapCase {
     name: &'static str,
@@ -219,7 +219,7 @@ static MAPS: [MapCase; 3] = [
 
 fn sends(rt: &impl Abort, alloc: Global, entry: Entry, case: &Case) -> Result<(), Fail> {
     let name = case.name;
-    let net = network(alloc, entry, [NOTHING; 3], [Side::Open; 3], [case.side; 3])?;
+    let net = network(alloc, entry, [NOTHING; 3], [Side::Map; 3], [case.side; 3])?;
     let before = route_of(alloc, &case.before)?;
     let given = export(alloc, &net, prefix(), ARC, &before)?;
     assert!(rt; is_wanted(given.as_ref(), case.wanted.as_ref()), "{name}");
@@ -228,7 +228,7 @@ fn sends(rt: &impl Abort, alloc: Global, entry: Entry, case: &Case) -> Result<()
 
 fn takes(rt: &impl Abort, alloc: Global, entry: Entry, case: &Case) -> Result<(), Fail> {
     let name = case.name;
-    let net = network(alloc, entry, [NOTHING; 3], [case.side; 3], [Side::Open; 3])?;
+    let net = network(alloc, entry, [NOTHING; 3], [case.side; 3], [Side::Map; 3])?;
     let before = route_of(alloc, &case.before)?;
     let given = import(alloc, &net, prefix(), ARC, &before)?;
     assert!(rt; is_wanted(given.as_ref(), case.wanted.as_ref()), "{name}");

@@ -1,10 +1,8 @@
 //! What maps give of a route at router a.
 
-use super::networks::{
-    Entry, NOTHING, PERMIT_ALL, Plain, Side, is_wanted, network, policy, route_of,
-};
+use super::networks::{Entry, NOTHING, PERMIT_ALL, Plain, Side, is_wanted, network, route_of};
 use concrete_algebra::run_map;
-use net_types::{Origin, Prefix};
+use net_types::{Origin, Policy, Prefix};
 use std::alloc::Global;
 use std::process::Abort;
 use std::test::Fail;
@@ -369,7 +367,7 @@ fn check(rt: &impl Abort, alloc: Global, case: &Case) -> Result<(), Fail> {
             ..BEFORE
         },
     )?;
-    let given = run_map(alloc, &net, 0, policy(Side::Map), prefix, &before)?;
+    let given = run_map(alloc, &net, 0, Policy::Map(0), prefix, &before)?;
     assert!(rt; is_wanted(given.as_ref(), case.wanted.as_ref()), "{name}");
     Ok(())
 }

@@ -1,12 +1,10 @@
-//! The network of the tests: routers a, b and c, numbered 0 to 2, each with a prefix list, a community list
-//! and a map, and a session between each two: link 0 between a and b, 1 between a and c, 2 between b and c.
+//! The network of the tests: routers a, b and c, numbered 0 to 2, each with a prefix list, two community lists and a
+//! map, and a session between each two: link 0 between a and b, 1 between a and c, 2 between b and c. In the
+//! configurations they have the numbers 1 to 3: AS 65001 to 65003, and the ends of their addresses.
 
 ghost use Rattle.std.specs.Prelude.{◌≡◌, IfOk, length};
 
-use net_types::{
-    Arc, Bits64, BundleRefusal, List, Net, NetRefusal, NoMemory, Origin, Policy, Prefix, Route,
-    Source,
-};
+use net_types::{Arc, Bits64, BundleRefusal, List, Net, NoMemory, Origin, Prefix, Route, Source};
 use std::alloc::Global;
 use test_networks::network_of;
 
@@ -16,14 +14,6 @@ pub(super) enum Side {
     Closed,
     Open,
     Map,
-}
-
-pub(super) fn policy(side: Side) -> Policy {
-    match side {
-        Side::Closed => Policy::Closed,
-        Side::Open => Policy::Open,
-        Side::Map => Policy::Map(0),
-    }
 }
 
 /// The prefix 10.9.0.0/24.
@@ -48,8 +38,9 @@ pub(super) const PERMIT_ALL: Entry = Entry {
     prepend: 0,
 };
 
-// The lists. List NINE denies 10.9.1.0/24; else it permits 10.9.0.0/16 and what lies in it, up to length 24. List 7
-// permits 0 and 1 together, denies 2, permits 0, permits 2 and 3 together. Community 4 is named nowhere else.
+// The lists. Communities 0 to 4 are 0:10, 0:20, 0:30, 0:40 and 0:50. List NINE denies 10.9.1.0/24; else it permits
+// 10.9.0.0/16 and what lies in it, up to length 24. List 7 permits 0 and 1 together, denies 2, permits 0, permits 2 and
+// 3 together. List 8 is there for community 4 alone, which nothing else names.
 const LISTS: &str = "ip prefix-list NINE seq 5 deny 10.9.1.0/24
 ip prefix-list NINE seq 10 permit 10.9.0.0/16 le 24
 bgp community-list 7 seq 5 permit 0:10 0:20
@@ -163,7 +154,7 @@ fn session(
     )?)
 }
 
-// The two ends of the link of this number between the routers of two others.
+// The two ends of the link of this number between these two routers, with the same policies at both.
 fn ends_of(
     alloc: Global,
     link: u8,
@@ -180,7 +171,8 @@ fn ends_of(
 
 /// The network with these origins at a, b and c, this entry first in each map, and these policies for what
 /// comes in and what goes out over links 0, 1 and 2. Its communities are 0 to 4, then NO_EXPORT as 5, then
-/// NO_ADVERTISE as 6. Open policies are not to stand beside closed ones, but where those that are asked for matter alone.
+/// NO_ADVERTISE as 6. Where one of these policies is closed, those that are asked to be open are closed too: a router
+/// requires policies of all its neighbors, or of none.
 pub(super) fn network(
     alloc: Global,
     entry: Entry,

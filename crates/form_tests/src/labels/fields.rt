@@ -2,7 +2,7 @@
 
 use super::{refusal_of, triangle};
 use label_file::read_labels;
-use net_types::{BundleRefusal, FormRefusal, NoMemory};
+use net_types::{FormRefusal, NoMemory};
 use std::alloc::Global;
 use std::test::Fail;
 
@@ -90,11 +90,7 @@ fn file_with(alloc: Global, key: &str, value: &str) -> Result<Vec<u8>, NoMemory>
 }
 
 // What `read_labels` makes of a label with this value at a key.
-fn refusal_with(
-    alloc: Global,
-    key: &str,
-    value: &str,
-) -> Result<Option<FormRefusal>, BundleRefusal> {
+fn refusal_with(alloc: Global, key: &str, value: &str) -> Result<Option<FormRefusal>, Fail> {
     let net = triangle(alloc)?;
     let file = file_with(alloc, key, value)?;
     Ok(refusal_of(read_labels(alloc, &net, file.as_slice())))

@@ -2,7 +2,6 @@
 
 use frr_policy::{LineRefusal, MapStep, read_map_line, words};
 use net_types::{List, MapEntry, NO_EXPORT, Origin, RouteMap, SetCommunity, Sets, Text};
-use std::alloc::AllocError;
 use std::test::Fail;
 
 fn read(

@@ -4,11 +4,11 @@ ghost use Rattle.std.specs.Prelude.{◌≤◌, IfOk, All};
 ghost use Rattle.net_types.specs.ConfigFacts.{IsConfig};
 
 use bundle_reader::read_bundle;
+use frr_reader::read_router;
 use net_types::{
     BundleRefusal, List, Net, NetRefusal, Prefix, ReadRefusal, RouterConfig, SourceFile, Text,
 };
 use std::alloc::{AllocError, Global};
-use std::process::Abort;
 use std::test::Fail;
 use topology::build;
 
@@ -176,22 +176,15 @@ fn limits(rt: HostRuntime) -> Result<(), Fail> {
 }
 
 // A configuration with this host and nothing else.
-fn config(alloc: Global, host: &str) -> Result<RouterConfig, AllocError>
+fn config(alloc: Global, host: &str) -> Result<RouterConfig, ReadRefusal>
     ensures { IfOk result IsConfig }
 {
-    Ok(RouterConfig {
-        host: Text::from_str(alloc, host)?,
-        interfaces: List::new(alloc),
-        ospf: None,
-        bgp: None,
-        prefix_lists: List::new(alloc),
-        community_lists: List::new(alloc),
-        maps: List::new(alloc),
-    })
+    let text = format!(in alloc; "hostname {host}\n")?;
+    read_router(alloc, text.as_bytes())
 }
 
 // Configurations of hosts with numbers below the count.
-fn configs(alloc: Global, count: u32) -> Result<Vec<RouterConfig>, AllocError>
+fn configs(alloc: Global, count: u32) -> Result<Vec<RouterConfig>, ReadRefusal>
     ensures { IfOk result (λ v. All IsConfig v.items) }
 {
     let mut all = Vec::new(alloc);

@@ -1,0 +1,5 @@
+//! Tests of whole bundles: their networks as texts, worked out by hand, their refusals, and the limits.
+#![tactic(auto)]
+
+#[cfg(test)]
+mod bundles;
