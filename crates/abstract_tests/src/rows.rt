@@ -4,6 +4,7 @@
 ghost use Rattle.std.specs.Prelude.{◌≡◌};
 ghost use Rattle.abstract_route.specs.Rows.{single};
 
+use crate::asserting::{holds, holds_at};
 use abstract_route::{
     BOTTOM, Candidate, Range, Row, beats, carried, contains, is_below, is_inhabited, join,
 };
@@ -119,7 +120,7 @@ fn rows_that_hold_a_local_route(rt: HostRuntime) {
         ),
     ];
     for (name, row, wanted) in &cases {
-        assert_eq!(rt; contains(row, &route), *wanted, "{name}");
+        holds_at(&rt, name, contains(row, &route) == *wanted);
     }
 }
 
@@ -142,9 +143,9 @@ fn rows_that_hold_a_learned_route(rt: HostRuntime) {
         }),
     };
     let row = learned_row();
-    assert!(rt; contains(&row, &route));
-    assert!(rt; !contains(&with_med(&row, at(7)), &route));
-    assert!(rt; !contains(&with_length(&row, at(2)), &route));
+    holds(&rt, contains(&row, &route));
+    holds(&rt, !contains(&with_med(&row, at(7)), &route));
+    holds(&rt, !contains(&with_length(&row, at(2)), &route));
 }
 
 #[test]
@@ -195,18 +196,21 @@ fn rows_that_are_inhabited(rt: HostRuntime) {
         ),
     ];
     for (name, row, wanted) in &cases {
-        assert_eq!(rt; is_inhabited(row), *wanted, "{name}");
+        holds_at(&rt, name, is_inhabited(row) == *wanted);
     }
 }
 
 #[test]
 fn joins_at_the_ends(rt: HostRuntime) {
-    assert_eq!(rt; join(&BOTTOM, &LOCAL), LOCAL);
-    assert_eq!(rt; join(&LOCAL, &BOTTOM), LOCAL);
+    holds(&rt, join(&BOTTOM, &LOCAL) == LOCAL);
+    holds(&rt, join(&LOCAL, &BOTTOM) == LOCAL);
     let joined = join(&with_weight(&LOCAL, at(u64::MAX)), &LOCAL);
-    assert_eq!(rt; joined.weight, range(32768, u64::MAX));
-    assert!(rt; is_below(&BOTTOM, &LOCAL) && !is_below(&LOCAL, &BOTTOM));
-    assert_eq!(rt; carried(&with_med(&LOCAL, range(5, 0xffff_ffff))), LOCAL);
+    holds(&rt, joined.weight == range(32768, u64::MAX));
+    holds(&rt, is_below(&BOTTOM, &LOCAL) && !is_below(&LOCAL, &BOTTOM));
+    holds(
+        &rt,
+        carried(&with_med(&LOCAL, range(5, 0xffff_ffff))) == LOCAL,
+    );
 }
 
 fn local(row: &Row) -> Candidate {
@@ -318,6 +322,6 @@ fn candidates_that_beat_others(rt: HostRuntime) {
         ),
     ];
     for (name, a, b, wanted) in &cases {
-        assert_eq!(rt; beats(a, b), *wanted, "{name}");
+        holds_at(&rt, name, beats(a, b) == *wanted);
     }
 }

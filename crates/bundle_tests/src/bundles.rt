@@ -3,6 +3,7 @@
 ghost use Rattle.std.specs.Prelude.{◌≤◌, IfOk, All};
 ghost use Rattle.net_types.specs.ConfigFacts.{IsConfig};
 
+use crate::asserting::holds;
 use bundle_reader::read_bundle;
 use frr_reader::read_router;
 use net_types::{
@@ -103,7 +104,10 @@ static PAIRS: [(&[&str], Common, u64, u64); 5] = [
 fn least_pairs(rt: HostRuntime) -> Result<(), Fail> {
     for (texts, common, i, j) in &PAIRS {
         let refusal = read(rt.alloc(), texts)?.err();
-        assert!(rt; refusal == Some(BundleRefusal::InNet(refused(*common, *i, *j))));
+        holds(
+            &rt,
+            refusal == Some(BundleRefusal::InNet(refused(*common, *i, *j))),
+        );
     }
     Ok(())
 }
@@ -120,7 +124,7 @@ fn least_shared_subnet(rt: HostRuntime) -> Result<(), Fail> {
     let refusal = read(rt.alloc(), &SHARED)?.err();
     let subnet = Prefix::masked(0x0A00_0000, 30);
     let wanted = BundleRefusal::InNet(NetRefusal::SharedSubnet(subnet));
-    assert_eq!(rt; refusal, Some(wanted));
+    holds(&rt, refusal == Some(wanted));
     Ok(())
 }
 
@@ -161,17 +165,17 @@ fn limits(rt: HostRuntime) -> Result<(), Fail> {
     let b = many_links(alloc, "b", 2, 65)?;
     let refusal = read(alloc, &[&a, &b])?.err();
     let links = BundleRefusal::InNet(NetRefusal::TooManyLinks(65));
-    assert_eq!(rt; refusal, Some(links));
+    holds(&rt, refusal == Some(links));
     let mut both = many_links(alloc, "a", 1, 65)?;
     push_communities(&mut both, alloc, 63)?;
     let refusal = read(alloc, &[&both, &b])?.err();
-    assert_eq!(rt; refusal, Some(links));
+    holds(&rt, refusal == Some(links));
     let text = many_communities(alloc, 63)?;
     let refusal = read(alloc, &[&text])?.err();
     let communities = BundleRefusal::InNet(NetRefusal::TooManyCommunities(65));
-    assert_eq!(rt; refusal, Some(communities));
+    holds(&rt, refusal == Some(communities));
     let text = many_communities(alloc, 62)?;
-    assert!(rt; read(alloc, &[&text])?.is_ok());
+    holds(&rt, read(alloc, &[&text])?.is_ok());
     Ok(())
 }
 
@@ -199,9 +203,9 @@ fn configs(alloc: Global, count: u32) -> Result<Vec<RouterConfig>, ReadRefusal>
 fn many_routers(rt: HostRuntime) -> Result<(), Fail> {
     let alloc = rt.alloc();
     let refusal = build(alloc, &configs(alloc, 65)?).err();
-    assert_eq!(rt; refusal, Some(NetRefusal::TooManyRouters(65)));
+    holds(&rt, refusal == Some(NetRefusal::TooManyRouters(65)));
     let net = build(alloc, &configs(alloc, 64)?)?;
-    assert_eq!(rt; net.routers().len(), 64);
+    holds(&rt, net.routers().len() == 64);
     Ok(())
 }
 
@@ -221,17 +225,17 @@ fn refusal_of(alloc: Global, sizes: &[usize]) -> Result<Option<BundleRefusal>, F
 fn limits_of_a_bundle(rt: HostRuntime) -> Result<(), Fail> {
     let alloc = rt.alloc();
     let unnamed = Some(BundleRefusal::InFile(0, ReadRefusal::NoHostname));
-    assert_eq!(rt;
-        refusal_of(alloc, &[0; 65])?,
-        Some(BundleRefusal::TooManyFiles(65))
+    holds(
+        &rt,
+        refusal_of(alloc, &[0; 65])? == Some(BundleRefusal::TooManyFiles(65)),
     );
-    assert_eq!(rt; refusal_of(alloc, &[0; 64])?, unnamed);
+    holds(&rt, refusal_of(alloc, &[0; 64])? == unnamed);
     let mut sizes = vec![in alloc; 262_144; 16]?;
-    assert_eq!(rt; refusal_of(alloc, &sizes)?, unnamed);
+    holds(&rt, refusal_of(alloc, &sizes)? == unnamed);
     sizes.push(1)?;
-    assert_eq!(rt;
-        refusal_of(alloc, &sizes)?,
-        Some(BundleRefusal::TooLarge(4_194_305))
+    holds(
+        &rt,
+        refusal_of(alloc, &sizes)? == Some(BundleRefusal::TooLarge(4_194_305)),
     );
     Ok(())
 }

@@ -1,5 +1,6 @@
 //! Runs of the program over folders in memory, and what they are made of.
 
+use crate::asserting::holds;
 use commands::run;
 use net_types::{List, NoMemory, SourceFile, Text};
 use outside::{MemShelf, MemSink};
@@ -104,7 +105,7 @@ const CHECK: [&str; 4] = ["check", "old", "new", "props"];
 #[test]
 fn line_of_three(rt: HostRuntime) {
     let run = ending_of(rt.alloc(), &CHECK, &LINE, &PROPERTIES, &[], &[]);
-    assert!(rt; ends(run, 0, LINE_REPORT));
+    holds(&rt, ends(run, 0, LINE_REPORT));
 }
 
 #[test]
@@ -125,28 +126,28 @@ fn usage(rt: HostRuntime) {
     ];
     for words in cases {
         let run = ending_of(rt.alloc(), words, &LINE, &PROPERTIES, &[], &[]);
-        assert!(rt; ends(run, 3, usage));
+        holds(&rt, ends(run, 3, usage));
     }
 }
 
 #[test]
 fn faults_of_the_outside(rt: HostRuntime) {
     let written = ending_of(rt.alloc(), &CHECK, &LINE, &PROPERTIES, &[], &[1]);
-    assert!(rt; ends(written, 5, ""));
+    holds(&rt, ends(written, 5, ""));
     let read = ending_of(rt.alloc(), &CHECK, &LINE, &PROPERTIES, &[1], &[]);
-    assert!(rt; ends(read, 4, "read fault\n"));
+    holds(&rt, ends(read, 4, "read fault\n"));
     let absent = ending_of(rt.alloc(), &CHECK, &[], &PROPERTIES, &[], &[]);
-    assert!(rt; ends(absent, 2, "refused: no such path old\n"));
+    holds(&rt, ends(absent, 2, "refused: no such path old\n"));
 }
 
 #[test]
 fn each_call_of_the_shelf_fails(rt: HostRuntime) {
     for call in 1..10 {
         let run = ending_of(rt.alloc(), &CHECK, &LINE, &PROPERTIES, &[call], &[]);
-        assert!(rt; ends(run, 4, "read fault\n"));
+        holds(&rt, ends(run, 4, "read fault\n"));
     }
     let past = ending_of(rt.alloc(), &CHECK, &LINE, &PROPERTIES, &[10], &[]);
-    assert!(rt; ends(past, 0, LINE_REPORT));
+    holds(&rt, ends(past, 0, LINE_REPORT));
 }
 
 #[test]
@@ -159,5 +160,5 @@ fn other_files_of_a_folder(rt: HostRuntime) {
         &[],
         &[],
     );
-    assert!(rt; ends(run, 0, LINE_REPORT));
+    holds(&rt, ends(run, 0, LINE_REPORT));
 }

@@ -3,6 +3,7 @@
 ghost use Rattle.std.specs.Prelude.{◌≤◌, IfSome};
 ghost use Rattle.failure_sets.specs.SetOrder.{IsPermitted};
 
+use crate::asserting::{holds, holds_at};
 use failure_sets::{count, first, next, place};
 use net_types::FailSet;
 use std::process::Abort;
@@ -69,14 +70,14 @@ fn walk(rt: &impl Abort, links: u8, most: u8)
     for wanted in SETS {
         if stands(wanted, links, most) {
             let set = left.expect(rt, "a set is left");
-            assert!(rt; set.as_slice() == wanted);
-            assert_eq!(rt; place(links, set), passed);
+            holds(rt, set.as_slice() == wanted);
+            holds(rt, place(links, set) == passed);
             left = next(links, most, set);
             passed += 1;
         }
     }
-    assert!(rt; left.is_none());
-    assert_eq!(rt; count(links, most), passed);
+    holds(rt, left.is_none());
+    holds(rt, count(links, most) == passed);
 }
 
 #[test]
@@ -99,8 +100,8 @@ fn counts(rt: HostRuntime) {
         ("of no links", (0, 3), 1),
     ];
     for (name, (links, most), wanted) in cases {
-        assert!(rt; links <= 64 && most <= 3);
-        assert_eq!(rt; count(links, most), wanted, "{name}");
+        holds(&rt, links <= 64 && most <= 3);
+        holds_at(&rt, name, count(links, most) == wanted);
     }
 }
 
@@ -130,8 +131,8 @@ const FAR_SETS: [(&[u8], u64, Option<&[u8]>); 7] = [
 fn far_sets(rt: HostRuntime) {
     for (links, wanted, behind) in FAR_SETS {
         let set = set_of(links, 64).expect(&rt, "three ascending links below 64");
-        assert_eq!(rt; place(64, set), wanted);
+        holds(&rt, place(64, set) == wanted);
         let found = next(64, 3, set);
-        assert!(rt; found.as_ref().map(|next| next.as_slice()) == behind);
+        holds(&rt, found.as_ref().map(|next| next.as_slice()) == behind);
     }
 }

@@ -5,6 +5,8 @@
 #[cfg(test)]
 mod algebra;
 #[cfg(test)]
+mod asserting;
+#[cfg(test)]
 mod failures;
 #[cfg(test)]
 mod paths;

@@ -1,5 +1,6 @@
 //! Triangles of OSPF routers with distances and next hops worked out by hand.
 
+use crate::asserting::holds_at;
 use net_types::{Arc, BundleRefusal, FailSet, Net, NoMemory, Prefix};
 use ospf_paths::{distances, is_next_hop, is_tight};
 use std::alloc::Global;
@@ -278,22 +279,14 @@ const CASES: [Case; 16] = [
 // Compares what was found with what is wanted; link 4 is none of the triangle's.
 fn compare(rt: &impl Abort, case: &Case<'_>, net: &Net, failed: FailSet, found: &[Option<u64>]) {
     let name = case.name;
-    assert_eq!(rt; found, case.distances.as_slice(), "{name}");
+    holds_at(rt, name, found == case.distances.as_slice());
     for link in 0..5 {
         for down in [UP, DOWN] {
             let arc = Arc { link, down };
             let hop = is_next_hop(net, prefix(), failed, found, arc);
-            assert_eq!(rt;
-                hop,
-                case.hops.contains(&(link, down)),
-                "{name}: {link} {down}"
-            );
+            holds_at(rt, name, hop == case.hops.contains(&(link, down)));
             let tight = is_tight(net, failed, found, arc);
-            assert_eq!(rt;
-                tight,
-                case.tight.contains(&(link, down)),
-                "{name}: {link} {down}"
-            );
+            holds_at(rt, name, tight == case.tight.contains(&(link, down)));
         }
     }
 }

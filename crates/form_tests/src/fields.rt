@@ -1,5 +1,6 @@
 //! What stands at the keys of a small document.
 
+use crate::asserting::{holds, holds_at};
 use net_types::{FormRefusal, NoMemory, Prefix};
 use std::alloc::Global;
 use std::test::Fail;
@@ -75,19 +76,22 @@ fn texts_and_prefixes(rt: HostRuntime) -> Result<(), Fail> {
     let Ok(top) = document(rt.alloc(), DOCUMENT.as_bytes()) else {
         return Err("refused")?;
     };
-    assert_eq!(rt; text_at(&top, "name"), Some("two words"));
-    assert_eq!(rt; text_at(&top, "zero"), None);
-    assert_eq!(rt; host_at(&top, "host"), Some("r1"));
-    assert_eq!(rt; host_at(&top, "longest").map(|host| host.len()), Some(63));
-    for key in ["name", "longer", "blank", "zero", "absent"] {
-        assert_eq!(rt; host_at(&top, key), None, "{key}");
-    }
-    assert_eq!(rt;
-        prefix_at(&top, "prefix"),
-        Some(Prefix::masked(0x0A09_0000, 24))
+    holds(&rt, text_at(&top, "name") == Some("two words"));
+    holds(&rt, text_at(&top, "zero") == None);
+    holds(&rt, host_at(&top, "host") == Some("r1"));
+    holds(
+        &rt,
+        host_at(&top, "longest").map(|host| host.len()) == Some(63),
     );
-    assert_eq!(rt; prefix_at(&top, "hosted"), None);
-    assert_eq!(rt; prefix_at(&top, "host"), None);
+    for key in ["name", "longer", "blank", "zero", "absent"] {
+        holds_at(&rt, key, host_at(&top, key) == None);
+    }
+    holds(
+        &rt,
+        prefix_at(&top, "prefix") == Some(Prefix::masked(0x0A09_0000, 24)),
+    );
+    holds(&rt, prefix_at(&top, "hosted") == None);
+    holds(&rt, prefix_at(&top, "host") == None);
     Ok(())
 }
 
@@ -97,7 +101,7 @@ fn numbers(rt: HostRuntime) -> Result<(), Fail> {
         return Err("refused")?;
     };
     for (key, low, high, wanted) in &NUMBERS {
-        assert_eq!(rt; number_at(&top, key, *low, *high), *wanted, "{key}");
+        holds_at(&rt, key, number_at(&top, key, *low, *high) == *wanted);
     }
     Ok(())
 }
@@ -107,16 +111,19 @@ fn arrays_and_tables(rt: HostRuntime) -> Result<(), Fail> {
     let Ok(top) = document(rt.alloc(), DOCUMENT.as_bytes()) else {
         return Err("refused")?;
     };
-    assert_eq!(rt; array_at(&top, "numbers").map(|items| items.len()), Some(2));
-    assert!(rt; array_at(&top, "host").is_none());
+    holds(
+        &rt,
+        array_at(&top, "numbers").map(|items| items.len()) == Some(2),
+    );
+    holds(&rt, array_at(&top, "host").is_none());
     for (key, wanted) in &TABLES {
         let tables = tables_at(&top, key).map(|tables| tables.len());
-        assert_eq!(rt; tables, *wanted, "{key}");
+        holds_at(&rt, key, tables == *wanted);
     }
     let one = value_at(&top, "one").and_then(|value| value.as_table());
-    assert!(rt; one.is_some_and(|one| has_only(one, &["b", "a"])));
-    assert!(rt; one.is_some_and(|one| !has_only(one, &["b"])));
-    assert!(rt; !has_only(&top, &["host"]));
+    holds(&rt, one.is_some_and(|one| has_only(one, &["b", "a"])));
+    holds(&rt, one.is_some_and(|one| !has_only(one, &["b"])));
+    holds(&rt, !has_only(&top, &["host"]));
     Ok(())
 }
 
@@ -138,13 +145,16 @@ fn no_document(rt: HostRuntime) -> Result<(), Fail> {
     let alloc = rt.alloc();
     let longest = comment(alloc, 262_144)?;
     let longer = comment(alloc, 262_145)?;
-    assert_eq!(rt; refusal_of(alloc, longest.as_slice()), None);
-    assert_eq!(rt;
-        refusal_of(alloc, longer.as_slice()),
-        Some(FormRefusal::TooLong)
+    holds(&rt, refusal_of(alloc, longest.as_slice()) == None);
+    holds(
+        &rt,
+        refusal_of(alloc, longer.as_slice()) == Some(FormRefusal::TooLong),
     );
-    assert_eq!(rt; refusal_of(alloc, b"\xFF"), Some(FormRefusal::NotToml));
-    assert_eq!(rt; refusal_of(alloc, b"a ="), Some(FormRefusal::NotToml));
-    assert_eq!(rt; refusal_of(alloc, b"\xEF\xBB\xBFa = 1"), None);
+    holds(
+        &rt,
+        refusal_of(alloc, b"\xFF") == Some(FormRefusal::NotToml),
+    );
+    holds(&rt, refusal_of(alloc, b"a =") == Some(FormRefusal::NotToml));
+    holds(&rt, refusal_of(alloc, b"\xEF\xBB\xBFa = 1") == None);
     Ok(())
 }

@@ -3,6 +3,7 @@
 mod fields;
 mod files;
 
+use crate::asserting::{holds, holds_at};
 use label_file::{Labels, read_labels};
 use net_types::{Arc, BundleRefusal, FormRefusal, Net, Origin, Route, Source};
 use std::alloc::Global;
@@ -149,12 +150,12 @@ label = [
 fn compare(rt: &impl Abort, route: &Option<Route>, source: Source, path: &[u8], preference: u32) {
     match route {
         Some(route) => {
-            assert_eq!(rt; route.source, source);
-            assert_eq!(rt; route.path.as_slice(), path);
-            assert_eq!(rt; route.preference, preference);
-            assert_eq!(rt; route.origin, Origin::Igp);
+            holds(rt, route.source == source);
+            holds(rt, route.path.as_slice() == path);
+            holds(rt, route.preference == preference);
+            holds(rt, route.origin == Origin::Igp);
         }
-        None => assert!(rt; false, "no route"),
+        None => holds_at(rt, "no route", false),
     }
 }
 
@@ -169,7 +170,7 @@ fn worked_labels(rt: HostRuntime) -> Result<(), Fail> {
     let Ok(labels) = read else {
         return Err("refused")?;
     };
-    assert!(rt; labels.failed.as_slice().is_empty());
+    holds(&rt, labels.failed.as_slice().is_empty());
     let [a, b, d] = labels.labels.as_slice() else {
         return Err("not three")?;
     };
@@ -191,7 +192,7 @@ fn labels_refused(rt: HostRuntime) -> Result<(), Fail> {
     let net = triangle(rt.alloc())?;
     for case in &REFUSED {
         let read = read_labels(rt.alloc(), &net, case.text.as_bytes());
-        assert_eq!(rt; refusal_of(read), Some(case.wanted), "{}", case.name);
+        holds_at(&rt, case.name, refusal_of(read) == Some(case.wanted));
     }
     Ok(())
 }

@@ -1,5 +1,6 @@
 //! Property files: each field and its range, the least place, and the limits.
 
+use crate::asserting::{holds, holds_at};
 use net_types::{FormRefusal, NoMemory};
 use property_book::read_properties;
 use std::alloc::Global;
@@ -89,7 +90,7 @@ fn fields_of_a_property(rt: HostRuntime) -> Result<(), Fail> {
         } else {
             Some(FormRefusal::BadField(1))
         };
-        assert_eq!(rt; refusal, wanted, "{name} {kind} {prefix} {failures}");
+        holds_at(&rt, name, refusal == wanted);
     }
     Ok(())
 }
@@ -110,9 +111,9 @@ const INLINE: &[u8] =
 fn top_level_of_a_property_file(rt: HostRuntime) {
     for text in NO_LISTS {
         let refusal = refusal_of(rt.alloc(), text);
-        assert_eq!(rt; refusal, Some(FormRefusal::BadField(0)));
+        holds(&rt, refusal == Some(FormRefusal::BadField(0)));
     }
-    assert_eq!(rt; count_of(rt.alloc(), INLINE), Some(1));
+    holds(&rt, count_of(rt.alloc(), INLINE) == Some(1));
 }
 
 // A file of so many properties, named p0, p1 and so on, and behind them one of this name, if any.
@@ -142,7 +143,7 @@ const MANY: [(u8, &str, Option<FormRefusal>); 4] = [
 fn many_properties(rt: HostRuntime) -> Result<(), Fail> {
     for (count, last, wanted) in &MANY {
         let text = tables(rt.alloc(), *count, last)?;
-        assert_eq!(rt; refusal_of(rt.alloc(), text.as_bytes()), *wanted);
+        holds(&rt, refusal_of(rt.alloc(), text.as_bytes()) == *wanted);
     }
     Ok(())
 }
@@ -153,7 +154,7 @@ const REPEATED_BEFORE_BAD: &[u8] =
 #[test]
 fn a_bad_field_before_a_repeated_name(rt: HostRuntime) {
     let refusal = refusal_of(rt.alloc(), REPEATED_BEFORE_BAD);
-    assert_eq!(rt; refusal, Some(FormRefusal::BadField(3)));
+    holds(&rt, refusal == Some(FormRefusal::BadField(3)));
 }
 
 // A comment of so many bytes.
@@ -168,11 +169,11 @@ fn comment(alloc: Global, count: u32) -> Result<Vec<u8>, NoMemory> {
 #[test]
 fn long_files_and_no_text(rt: HostRuntime) -> Result<(), Fail> {
     let longest = comment(rt.alloc(), 262_144)?;
-    assert_eq!(rt; count_of(rt.alloc(), longest.as_slice()), Some(0));
+    holds(&rt, count_of(rt.alloc(), longest.as_slice()) == Some(0));
     let longer = comment(rt.alloc(), 262_145)?;
     let refusal = refusal_of(rt.alloc(), longer.as_slice());
-    assert_eq!(rt; refusal, Some(FormRefusal::TooLong));
+    holds(&rt, refusal == Some(FormRefusal::TooLong));
     let refusal = refusal_of(rt.alloc(), b"\xff");
-    assert_eq!(rt; refusal, Some(FormRefusal::NotToml));
+    holds(&rt, refusal == Some(FormRefusal::NotToml));
     Ok(())
 }

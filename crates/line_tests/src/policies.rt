@@ -4,6 +4,7 @@ mod communities;
 mod maps;
 mod prefixes;
 
+use crate::asserting::holds_at;
 use frr_policy::words;
 
 // Whether the word is this one; no word is as an empty one.
@@ -27,9 +28,9 @@ static LINES: [(&str, &str, &str, &str); 6] = [
 fn words_stand_between_blanks(rt: HostRuntime) {
     for (line, first, second, third) in &LINES {
         let mut left = words(line.as_bytes());
-        assert!(rt; is(left.next(), first), "{line}");
-        assert!(rt; is(left.next(), second), "{line}");
-        assert!(rt; is(left.next(), third), "{line}");
-        assert!(rt; is(left.next(), ""), "{line}");
+        holds_at(&rt, line, is(left.next(), first));
+        holds_at(&rt, line, is(left.next(), second));
+        holds_at(&rt, line, is(left.next(), third));
+        holds_at(&rt, line, is(left.next(), ""));
     }
 }

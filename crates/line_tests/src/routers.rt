@@ -4,6 +4,7 @@ mod contents;
 mod running;
 mod tables;
 
+use crate::asserting::{holds, holds_at};
 use frr_reader::read_router;
 use net_types::{Interface, Prefix, ReadRefusal, RouterConfig};
 use std::test::Fail;
@@ -55,13 +56,13 @@ fn is_as_wanted(interface: &Interface, wanted: &Wanted) -> bool {
 fn three_routers_in_a_line(rt: HostRuntime) -> Result<(), Fail> {
     for (host, text, wanted) in &LINE_OF_THREE {
         let result = read(&rt, text);
-        assert!(rt; result.is_ok(), "{host}");
+        holds_at(&rt, host, result.is_ok());
         if let Ok(config) = result {
-            assert_eq!(rt; config.host.as_str(), *host);
-            assert!(rt; config.ospf.is_some() && config.bgp.is_none(), "{host}");
-            assert_eq!(rt; config.interfaces.len(), wanted.len(), "{host}");
+            holds(&rt, config.host.as_str() == *host);
+            holds_at(&rt, host, config.ospf.is_some() && config.bgp.is_none());
+            holds_at(&rt, host, config.interfaces.len() == wanted.len());
             for (interface, wanted) in config.interfaces.as_slice().iter().zip(*wanted) {
-                assert!(rt; is_as_wanted(interface, wanted), "{host}");
+                holds_at(&rt, host, is_as_wanted(interface, wanted));
             }
         }
     }
@@ -73,7 +74,7 @@ fn lines_that_are_accepted(rt: HostRuntime) -> Result<(), Fail> {
     for (name, lines) in &ACCEPTED {
         let text = format!(in rt.alloc(); "hostname a\n{lines}")?;
         let result = read(&rt, text.as_str());
-        assert_eq!(rt; result.err(), None, "{name}");
+        holds_at(&rt, name, result.err() == None);
     }
     Ok(())
 }
@@ -83,7 +84,7 @@ fn lines_that_are_refused(rt: HostRuntime) -> Result<(), Fail> {
     for (name, lines, refusal) in &REFUSED {
         let text = format!(in rt.alloc(); "hostname a\n{lines}")?;
         let result = read(&rt, text.as_str());
-        assert_eq!(rt; result.err(), Some(*refusal), "{name}");
+        holds_at(&rt, name, result.err() == Some(*refusal));
     }
     Ok(())
 }
@@ -123,17 +124,13 @@ fn long_line(rt: &HostRuntime, first: &str, blanks: usize) -> Result<String, Fai
 fn limits(rt: HostRuntime) -> Result<(), Fail> {
     for (first, blanks, refusal) in &LENGTHS {
         let text = long_line(&rt, first, *blanks)?;
-        assert_eq!(rt; read(&rt, text.as_str()).err(), *refusal, "{first}{blanks}");
+        holds_at(&rt, first, read(&rt, text.as_str()).err() == *refusal);
     }
     for (empty, refused) in [(1, None), (2, Some(131_069))] {
         let text = long_file(&rt, 131_066, empty)?;
         match (read(&rt, text.as_str()), refused) {
-            (Ok(_config), None) => assert_eq!(rt; text.len(), 262_144),
-            (result, _) => assert_eq!(rt;
-                result.err(),
-                refused.map(ReadRefusal::OutOfLimit),
-                "{empty}"
-            ),
+            (Ok(_config), None) => holds(&rt, text.len() == 262_144),
+            (result, _) => holds(&rt, result.err() == refused.map(ReadRefusal::OutOfLimit)),
         }
     }
     Ok(())
@@ -154,7 +151,7 @@ fn size_is_the_last_cause(rt: HostRuntime) -> Result<(), Fail> {
     let all_but_one = long_file(&rt, 131_066, 0)?;
     for (tail, refusal) in &BEHIND_ALL_BUT_ONE {
         let text = format!(in rt.alloc(); "{all_but_one}{tail}")?;
-        assert_eq!(rt; read(&rt, text.as_str()).err(), *refusal, "{tail}");
+        holds_at(&rt, tail, read(&rt, text.as_str()).err() == *refusal);
     }
     Ok(())
 }
@@ -176,7 +173,7 @@ static NAMELESS: [(&str, ReadRefusal); 4] = [
 #[test]
 fn files_without_a_name(rt: HostRuntime) {
     for (text, refusal) in &NAMELESS {
-        assert_eq!(rt; read(&rt, text).err(), Some(*refusal), "{text}");
+        holds_at(&rt, text, read(&rt, text).err() == Some(*refusal));
     }
 }
 
@@ -193,16 +190,16 @@ fn long_map(rt: &HostRuntime, entries: usize) -> Result<String, Fail> {
 #[test]
 fn entries_of_a_map(rt: HostRuntime) -> Result<(), Fail> {
     let mut text = long_map(&rt, 64)?;
-    assert_eq!(rt; read(&rt, text.as_str()).err(), None);
+    holds(&rt, read(&rt, text.as_str()).err() == None);
     text.push_str("route-map M deny 64\n")?;
-    assert_eq!(rt;
-        read(&rt, text.as_str()).err(),
-        Some(ReadRefusal::Repeated(66))
+    holds(
+        &rt,
+        read(&rt, text.as_str()).err() == Some(ReadRefusal::Repeated(66)),
     );
     let text = long_map(&rt, 65)?;
-    assert_eq!(rt;
-        read(&rt, text.as_str()).err(),
-        Some(ReadRefusal::OutOfLimit(66))
+    holds(
+        &rt,
+        read(&rt, text.as_str()).err() == Some(ReadRefusal::OutOfLimit(66)),
     );
     Ok(())
 }

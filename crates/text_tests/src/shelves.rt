@@ -2,6 +2,7 @@
 
 ghost use Rattle.std.specs.Prelude.{Some};
 
+use crate::asserting::{holds, holds_at};
 use net_types::{List, SourceFile, Text};
 use outside::{DirShelf, Failed, MemShelf, MemSink, OutSink, Shelf, ShelfError, Sink, give_all};
 use std::alloc::{AllocError, Global};
@@ -34,7 +35,7 @@ fn shelf(
     failing: &[u64],
 ) -> Result<MemShelf, ShelfError> {
     let entries = entries(alloc, named)?;
-    assert!(rt; MemShelf::are_distinct(&entries));
+    holds(rt, MemShelf::are_distinct(&entries));
     Ok(MemShelf::new(alloc, entries, failing)?)
 }
 
@@ -81,7 +82,7 @@ fn names_in_a_folder(rt: HostRuntime) -> Result<(), Fail> {
     let mut shelf = shelf(&rt, rt.alloc(), &ENTRIES, &[])?;
     for (name, folder, wanted) in cases {
         let listed = shown_listing(&mut shelf, rt.alloc(), folder)?;
-        assert_eq!(rt; listed.as_str(), wanted, "{name}");
+        holds_at(&rt, name, listed.as_str() == wanted);
     }
     Ok(())
 }
@@ -102,8 +103,8 @@ fn bytes_of_a_file(rt: HostRuntime) -> Result<(), Fail> {
     let mut shelf = shelf(&rt, rt.alloc(), &ENTRIES, &[])?;
     for (name, path, limit, wanted) in cases {
         match shelf.read(rt.alloc(), path, limit) {
-            Ok(bytes) => assert_eq!(rt; bytes.as_slice(), wanted.as_bytes(), "{name}"),
-            Err(error) => assert_eq!(rt; shown_error(error), wanted, "{name}"),
+            Ok(bytes) => holds_at(&rt, name, bytes.as_slice() == wanted.as_bytes()),
+            Err(error) => holds_at(&rt, name, shown_error(error) == wanted),
         }
     }
     Ok(())
@@ -130,7 +131,7 @@ fn folders_that_look_alike(rt: HostRuntime) -> Result<(), Fail> {
     let mut shelf = shelf(&rt, rt.alloc(), &ALIKE, &[])?;
     for (name, folder, wanted) in cases {
         let listed = shown_listing(&mut shelf, rt.alloc(), folder)?;
-        assert_eq!(rt; listed.as_str(), wanted, "{name}");
+        holds_at(&rt, name, listed.as_str() == wanted);
     }
     Ok(())
 }
@@ -139,15 +140,15 @@ fn folders_that_look_alike(rt: HostRuntime) -> Result<(), Fail> {
 fn listings_and_reads_are_counted_together(rt: HostRuntime) -> Result<(), Fail> {
     let mut shelf = shelf(&rt, rt.alloc(), &ENTRIES, &[2, 4])?;
     let first = shown_listing(&mut shelf, rt.alloc(), "old")?;
-    assert_eq!(rt; first.as_str(), "");
+    holds(&rt, first.as_str() == "");
     let second = shelf.read(rt.alloc(), "new/a.conf", 10);
-    assert_eq!(rt; second.err(), Some(ShelfError::Failed));
+    holds(&rt, second.err() == Some(ShelfError::Failed));
     let third = shelf.read(rt.alloc(), "new/c.conf", 10);
-    assert_eq!(rt; third.err(), Some(ShelfError::Absent));
+    holds(&rt, third.err() == Some(ShelfError::Absent));
     let fourth = shown_listing(&mut shelf, rt.alloc(), "other")?;
-    assert_eq!(rt; fourth.as_str(), "Failed");
+    holds(&rt, fourth.as_str() == "Failed");
     let fifth = shown_listing(&mut shelf, rt.alloc(), "other")?;
-    assert_eq!(rt; fifth.as_str(), "Absent");
+    holds(&rt, fifth.as_str() == "Absent");
     Ok(())
 }
 
@@ -162,10 +163,10 @@ fn listed_calls_of_a_shelf_fail(rt: HostRuntime) -> Result<(), Fail> {
     let mut shelf = shelf(&rt, rt.alloc(), &ENTRIES, &[2, 4])?;
     for (name, wanted) in cases {
         match shelf.read(rt.alloc(), "new/a.conf", 10) {
-            Ok(bytes) => assert_eq!(rt; bytes.len(), wanted, "{name}"),
+            Ok(bytes) => holds_at(&rt, name, bytes.len() == wanted),
             Err(error) => {
-                assert_eq!(rt; error, ShelfError::Failed, "{name}");
-                assert_eq!(rt; 0, wanted, "{name}");
+                holds_at(&rt, name, error == ShelfError::Failed);
+                holds_at(&rt, name, 0 == wanted);
             }
         }
     }
@@ -183,8 +184,8 @@ fn a_sink_takes_what_it_has_room_for(rt: HostRuntime) -> Result<(), Fail> {
     ];
     let mut sink = MemSink::new(rt.alloc(), 5, &[1])?;
     for (name, piece, wanted, bytes) in cases {
-        assert_eq!(rt; sink.give(piece.as_bytes()).ok(), wanted, "{name}");
-        assert_eq!(rt; sink.bytes(), bytes.as_bytes(), "{name}");
+        holds_at(&rt, name, sink.give(piece.as_bytes()).ok() == wanted);
+        holds_at(&rt, name, sink.bytes() == bytes.as_bytes());
     }
     Ok(())
 }
@@ -205,8 +206,8 @@ fn listed_calls_of_a_full_sink_fail(rt: HostRuntime) -> Result<(), Fail> {
     ];
     let mut sink = MemSink::new(rt.alloc(), 1, &[1, 3])?;
     for (name, piece, wanted, bytes) in cases {
-        assert_eq!(rt; sink.give(piece.as_bytes()).ok(), wanted, "{name}");
-        assert_eq!(rt; sink.bytes(), bytes.as_bytes(), "{name}");
+        holds_at(&rt, name, sink.give(piece.as_bytes()).ok() == wanted);
+        holds_at(&rt, name, sink.bytes() == bytes.as_bytes());
     }
     Ok(())
 }
@@ -220,12 +221,12 @@ fn whole_pieces_are_given(rt: HostRuntime) -> Result<(), Fail> {
     ];
     let mut sink = MemSink::new(rt.alloc(), 5, &[])?;
     for (name, piece, wanted, bytes) in cases {
-        assert_eq!(rt;
-            give_all(&mut sink, piece.as_bytes()).is_ok(),
-            wanted,
-            "{name}"
+        holds_at(
+            &rt,
+            name,
+            give_all(&mut sink, piece.as_bytes()).is_ok() == wanted,
         );
-        assert_eq!(rt; sink.bytes(), bytes.as_bytes(), "{name}");
+        holds_at(&rt, name, sink.bytes() == bytes.as_bytes());
     }
     Ok(())
 }
@@ -234,13 +235,13 @@ fn whole_pieces_are_given(rt: HostRuntime) -> Result<(), Fail> {
 fn a_writer_gets_what_is_given(rt: HostRuntime) -> Result<(), Fail> {
     let mut written = Vec::new(rt.alloc());
     let mut out = OutSink::new(&mut written);
-    assert!(rt; give_all(&mut out, b"abc").is_ok());
-    assert_eq!(rt; written.as_slice(), b"abc".as_slice());
+    holds(&rt, give_all(&mut out, b"abc").is_ok());
+    holds(&rt, written.as_slice() == b"abc".as_slice());
     let mut room = [0; 2];
     let mut out = OutSink::new(room.as_mut_slice());
-    assert_eq!(rt; out.give(b"def").ok(), Some(2));
-    assert_eq!(rt; out.give(b"f").ok(), None);
-    assert_eq!(rt; room.as_slice(), b"de".as_slice());
+    holds(&rt, out.give(b"def").ok() == Some(2));
+    holds(&rt, out.give(b"f").ok() == None);
+    holds(&rt, room.as_slice() == b"de".as_slice());
     Ok(())
 }
 
@@ -262,11 +263,11 @@ impl Sink for OneByOne {
 #[test]
 fn a_piece_is_given_byte_by_byte(rt: HostRuntime) -> Result<(), Fail> {
     let mut all = OneByOne(MemSink::new(rt.alloc(), 5, &[])?);
-    assert!(rt; give_all(&mut all, b"abc").is_ok());
-    assert_eq!(rt; all.0.bytes(), b"abc".as_slice());
+    holds(&rt, give_all(&mut all, b"abc").is_ok());
+    holds(&rt, all.0.bytes() == b"abc".as_slice());
     let mut third = OneByOne(MemSink::new(rt.alloc(), 5, &[3])?);
-    assert!(rt; give_all(&mut third, b"abc").is_err());
-    assert_eq!(rt; third.0.bytes(), b"ab".as_slice());
+    holds(&rt, give_all(&mut third, b"abc").is_err());
+    holds(&rt, third.0.bytes() == b"ab".as_slice());
     Ok(())
 }
 
@@ -282,9 +283,9 @@ fn names_in_a_folder_of_the_machine(rt: HostRuntime) -> Result<(), Fail> {
     make_folders(&rt)?;
     let mut shelf = DirShelf::new(rt.clone()?);
     let listed = shown_listing(&mut shelf, rt.alloc(), "shelf")?;
-    assert_eq!(rt; listed.len(), "a.conf b x.conf ".len());
+    holds(&rt, listed.len() == "a.conf b x.conf ".len());
     for name in ["a.conf ", "b ", "x.conf "] {
-        assert!(rt; listed.as_str().contains(name), "{name}");
+        holds_at(&rt, name, listed.as_str().contains(name));
     }
     let cases = [
         ("a folder in it", "shelf/x.conf", ""),
@@ -293,7 +294,7 @@ fn names_in_a_folder_of_the_machine(rt: HostRuntime) -> Result<(), Fail> {
     ];
     for (name, folder, wanted) in cases {
         let listed = shown_listing(&mut shelf, rt.alloc(), folder)?;
-        assert_eq!(rt; listed.as_str(), wanted, "{name}");
+        holds_at(&rt, name, listed.as_str() == wanted);
     }
     Ok(())
 }
@@ -313,8 +314,8 @@ fn bytes_of_a_file_of_the_machine(rt: HostRuntime) -> Result<(), Fail> {
     let mut shelf = DirShelf::new(rt.clone()?);
     for (name, path, limit, wanted) in cases {
         match shelf.read(rt.alloc(), path, limit) {
-            Ok(bytes) => assert_eq!(rt; bytes.as_slice(), wanted.as_bytes(), "{name}"),
-            Err(error) => assert_eq!(rt; shown_error(error), wanted, "{name}"),
+            Ok(bytes) => holds_at(&rt, name, bytes.as_slice() == wanted.as_bytes()),
+            Err(error) => holds_at(&rt, name, shown_error(error) == wanted),
         }
     }
     Ok(())

@@ -6,6 +6,7 @@ use super::three_routers::{
     ADDED_AND_ASKED, ADDED_AND_DENIED, ASKED, EITHER, KEPT_IN, LET_OUT, LONGER, NOT_BOTH, OF_MED_7,
     PLAIN, RAISED, SILENT, STAMPED_OUT, network,
 };
+use crate::asserting::holds_at;
 use abstract_maps::{is_open, passes, transfer};
 use abstract_route::{BOTTOM, Range, Row};
 use net_types::{Arc, Bits64, Net, Prefix};
@@ -293,7 +294,7 @@ pub(super) fn is_as_wanted(net: &Net, case: &Case) -> bool {
 fn arcs_of_many_policies(rt: HostRuntime) -> Result<(), Fail> {
     let net = network(rt.alloc())?;
     for case in &POLICIES {
-        assert!(rt; is_as_wanted(&net, case), "{}", case.name);
+        holds_at(&rt, case.name, is_as_wanted(&net, case));
     }
     Ok(())
 }

@@ -5,6 +5,7 @@ ghost use Rattle.abstract_route.specs.Rows.{single};
 
 use super::one_router::network;
 use super::preferring::is_in;
+use crate::asserting::holds_at;
 use abstract_maps::{run_map_abs, sure};
 use abstract_route::{BOTTOM, Range, Row};
 use concrete_algebra::run_map;
@@ -261,9 +262,9 @@ fn maps_of_what_may_match(rt: HostRuntime) -> Result<(), Fail> {
         let net = network(rt.alloc(), case.permit, case.line)?;
         let before = row_of(case.has, case.lacks);
         let after = run_map_abs(&net, 0, policy, prefix_of(case), &before);
-        assert_eq!(rt; after, wanted_of(case), "{}", case.name);
+        holds_at(&rt, case.name, after == wanted_of(case));
         let is_sure = sure(&net, 0, policy, &prefix_of(case), &before);
-        assert_eq!(rt; is_sure, case.sure, "{}", case.name);
+        holds_at(&rt, case.name, is_sure == case.sure);
     }
     Ok(())
 }
@@ -298,7 +299,7 @@ fn all_fit(alloc: Global, case: &Case) -> Result<bool, Fail> {
 #[test]
 fn what_maps_give_of_routes_fits_the_rows(rt: HostRuntime) -> Result<(), Fail> {
     for case in &CASES {
-        assert!(rt; all_fit(rt.alloc(), case)?, "{}", case.name);
+        holds_at(&rt, case.name, all_fit(rt.alloc(), case)?);
     }
     Ok(())
 }

@@ -2,6 +2,7 @@
 
 ghost use Rattle.std.specs.Prelude.{◌≡◌, IfOk, length};
 
+use crate::asserting::holds;
 use abstract_maps::{is_open, local_row, passes, transfer};
 use abstract_route::{BOTTOM, Range, Row, contains};
 use concrete_algebra::{export, import, local_route};
@@ -122,13 +123,16 @@ const D_TO_A: Arc = Arc {
 fn transfer_rows(rt: HostRuntime) -> Result<(), Fail> {
     let net = network(rt.alloc())?;
     let at_d = local_row(&net, prefix(), 2, None);
-    assert_eq!(rt; at_d, ORIGINATED);
+    holds(&rt, at_d == ORIGINATED);
     let at_a = transfer(&net, prefix(), D_TO_A, &at_d);
     let of_d = Bits64::EMPTY.with(2);
-    assert_eq!(rt; at_a, learned(100, 1, of_d));
+    holds(&rt, at_a == learned(100, 1, of_d));
     let at_b = transfer(&net, prefix(), A_TO_B, &at_a);
-    assert_eq!(rt; at_b, learned(200, 2, of_d.with(0)));
-    assert!(rt; passes(&net, prefix(), D_TO_A, &at_d) && passes(&net, prefix(), A_TO_B, &at_a));
+    holds(&rt, at_b == learned(200, 2, of_d.with(0)));
+    holds(
+        &rt,
+        passes(&net, prefix(), D_TO_A, &at_d) && passes(&net, prefix(), A_TO_B, &at_a),
+    );
     Ok(())
 }
 
@@ -137,14 +141,17 @@ fn the_way_back_is_open_and_brings_nothing(rt: HostRuntime) -> Result<(), Fail> 
     let net = network(rt.alloc())?;
     let at_d = local_row(&net, prefix(), 2, None);
     let at_a = transfer(&net, prefix(), D_TO_A, &at_d);
-    assert_eq!(rt; transfer(&net, prefix(), A_TO_D, &at_a), BOTTOM);
-    assert!(rt; is_open(&net, prefix(), A_TO_D, &at_a) && passes(&net, prefix(), A_TO_D, &at_a));
-    assert!(rt; !is_open(&net, prefix(), A_TO_D, &BOTTOM));
+    holds(&rt, transfer(&net, prefix(), A_TO_D, &at_a) == BOTTOM);
+    holds(
+        &rt,
+        is_open(&net, prefix(), A_TO_D, &at_a) && passes(&net, prefix(), A_TO_D, &at_a),
+    );
+    holds(&rt, !is_open(&net, prefix(), A_TO_D, &BOTTOM));
     let nowhere = Arc {
         link: 3,
         down: false,
     };
-    assert_eq!(rt; transfer(&net, prefix(), nowhere, &at_d), BOTTOM);
+    holds(&rt, transfer(&net, prefix(), nowhere, &at_d) == BOTTOM);
     Ok(())
 }
 
@@ -162,13 +169,13 @@ fn what_is_carried_is_in_the_transfer(rt: HostRuntime) -> Result<(), Fail> {
     let Some(route) = local_route(alloc, &net, prefix(), 2, None)? else {
         panic!(rt; "nothing is originated");
     };
-    assert!(rt; is_in(&row, &route));
+    holds(&rt, is_in(&row, &route));
     let Some(sent) = export(alloc, &net, prefix(), D_TO_A, &route)? else {
         panic!(rt; "nothing is sent");
     };
     let Some(taken) = import(alloc, &net, prefix(), D_TO_A, &sent)? else {
         panic!(rt; "nothing is taken in");
     };
-    assert!(rt; is_in(&at_a, &taken));
+    holds(&rt, is_in(&at_a, &taken));
     Ok(())
 }

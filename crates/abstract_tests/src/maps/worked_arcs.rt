@@ -2,6 +2,7 @@
 
 use super::arcs::{ALL_BUT_2, Case, Known, LEARNED, MAYBE, PASSED, is_as_wanted};
 use super::three_routers::{A_AND_D, B_AND_D, STAMPED, network};
+use crate::asserting::holds_at;
 use std::test::Fail;
 
 // What a router originates.
@@ -210,7 +211,7 @@ const LEARNED_100: Known = Known {
 fn arcs_of_worked_networks(rt: HostRuntime) -> Result<(), Fail> {
     let net = network(rt.alloc())?;
     for case in &WORKED {
-        assert!(rt; is_as_wanted(&net, case), "{}", case.name);
+        holds_at(&rt, case.name, is_as_wanted(&net, case));
     }
     Ok(())
 }

@@ -3,6 +3,7 @@
 use super::folders::{LINE, OVERLAPPING};
 use super::networks::{LOCAL_OR_LEARNED, LOOP, NONE_STABLE, TWO_STABLE};
 use super::{CHECK, File, ending_of, ends};
+use crate::asserting::holds;
 use bundle_reader::read_bundle;
 use net_types::{
     Link, List, Net, NoMemory, Notice, Owned, Router, SourceFile, Text, address_text, prefix_text,
@@ -234,13 +235,13 @@ fn networks_of_ospf(rt: HostRuntime) {
     let alloc = rt.alloc();
     let wanted =
         "link 10.0.0.0/30 r1-r2 adjacency\nlink 10.0.1.0/30 r2-r3 adjacency\nowner r3 10.9.0.3/32 stub 0\n";
-    assert!(rt; is_network_in(alloc, &LINE, "old", wanted));
+    holds(&rt, is_network_in(alloc, &LINE, "old", wanted));
     let wanted =
         "link 10.0.0.0/30 r1-r2 adjacency\nlink 10.0.1.0/30 r1-r3 adjacency\nlink 10.0.2.0/30 r2-r3 adjacency\nowner r3 10.9.0.3/32 stub 0\n";
-    assert!(rt; is_network(alloc, &TRIANGLE, wanted));
+    holds(&rt, is_network(alloc, &TRIANGLE, wanted));
     let wanted =
         "link 10.0.0.0/30 r1-r2 adjacency\nlink 10.0.1.0/30 r2-r3 adjacency\nowner r3 10.9.0.0/24 stub\nowner r3 10.9.0.3/32 stub 0\n";
-    assert!(rt; is_network_in(alloc, &OVERLAPPING, "new", wanted));
+    holds(&rt, is_network_in(alloc, &OVERLAPPING, "new", wanted));
 }
 
 #[test]
@@ -248,16 +249,16 @@ fn networks_of_bgp(rt: HostRuntime) {
     let alloc = rt.alloc();
     let wanted =
         "link 10.0.0.0/30 a-b session\nlink 10.0.1.0/30 a-d session\nlink 10.0.2.0/30 b-d session\nowner d 10.9.0.0/24 network\n";
-    assert!(rt; is_network(alloc, &TWO_STABLE, wanted));
+    holds(&rt, is_network(alloc, &TWO_STABLE, wanted));
     let wanted =
         "link 10.0.0.0/30 a-b session\nlink 10.0.1.0/30 a-c session\nlink 10.0.2.0/30 a-d session\nlink 10.0.3.0/30 b-c session\nlink 10.0.4.0/30 b-d session\nlink 10.0.5.0/30 c-d session\nowner d 10.9.0.0/24 network\n";
-    assert!(rt; is_network(alloc, &NONE_STABLE, wanted));
+    holds(&rt, is_network(alloc, &NONE_STABLE, wanted));
     let wanted =
         "link 10.0.0.0/30 d-r2 session\nlink 10.0.1.0/30 d-r3 session\nlink 10.0.2.0/30 r1-r2 session\nlink 10.0.3.0/30 r1-r3 session\nowner d 10.9.0.0/24 network\n";
-    assert!(rt; is_network(alloc, &PREFERRED_WAYPOINT, wanted));
+    holds(&rt, is_network(alloc, &PREFERRED_WAYPOINT, wanted));
     let wanted =
         "link 10.0.0.0/30 o1-w session\nlink 10.0.1.0/30 o2-w session\nlink 10.0.2.0/30 o2-u session\nowner o1 10.9.0.1/32 network stub\nowner o2 10.9.0.1/32 stub\n";
-    assert!(rt; is_network(alloc, &TWO_OWNERS, wanted));
+    holds(&rt, is_network(alloc, &TWO_OWNERS, wanted));
 }
 
 #[test]
@@ -265,13 +266,13 @@ fn networks_of_stamps(rt: HostRuntime) {
     let alloc = rt.alloc();
     let wanted =
         "link 10.0.0.0/30 m-o session\nlink 10.0.1.0/30 m-z session\nowner o 10.9.0.0/24 network\n";
-    assert!(rt; is_network(alloc, &STAMPED, wanted));
+    holds(&rt, is_network(alloc, &STAMPED, wanted));
     let wanted =
         "link 10.0.0.0/30 m-o session\nlink 10.0.1.0/30 m-o session\nlink 10.0.2.0/30 m-z session\nowner o 10.9.0.0/24 network\n";
-    assert!(rt; is_network(alloc, &STAMPED_TWICE_LINKED, wanted));
+    holds(&rt, is_network(alloc, &STAMPED_TWICE_LINKED, wanted));
     let wanted =
         "link 10.0.0.0/30 m-o session\nlink 10.0.1.0/30 m-o session\nlink 10.0.2.0/30 m-z session\nowner o 10.9.0.0/24 network\n";
-    assert!(rt; is_network(alloc, &STAMPED_AND_PREFERRED, wanted));
+    holds(&rt, is_network(alloc, &STAMPED_AND_PREFERRED, wanted));
 }
 
 #[test]
@@ -279,10 +280,10 @@ fn networks_of_both(rt: HostRuntime) {
     let alloc = rt.alloc();
     let wanted =
         "link 10.0.0.0/30 o-x adjacency\nlink 10.0.1.0/30 o-y session\nlink 10.0.2.0/30 x-y session\nowner o 10.9.0.1/32 network stub 0\n";
-    assert!(rt; is_network(alloc, &LOCAL_OR_LEARNED, wanted));
+    holds(&rt, is_network(alloc, &LOCAL_OR_LEARNED, wanted));
     let wanted =
         "link 10.0.0.0/30 m-o adjacency\nlink 10.0.1.0/30 m-x session adjacency\nowner o 10.9.0.1/32 stub 0\n";
-    assert!(rt; is_network(alloc, &LOOP, wanted));
+    holds(&rt, is_network(alloc, &LOOP, wanted));
 }
 
 #[test]
@@ -293,7 +294,7 @@ fn running_configuration(rt: HostRuntime) {
         "Building configuration...\n\nCurrent configuration:\n!\nfrr version 8.1\nfrr defaults traditional\nhostname a\nlog syslog informational\nno ipv6 forwarding\nservice integrated-vtysh-config\n!\ninterface eth0\n description to b\n ip address 10.0.12.1/30\nexit\n!\nrouter bgp 65001\n bgp router-id 10.255.0.1\n no bgp ebgp-requires-policy\n neighbor 10.0.12.2 remote-as 65002\n !\n address-family ipv4 unicast\n  network 10.1.0.0/24\n  neighbor 10.0.12.2 route-map HIGH in\n exit-address-family\nexit\n!\nroute-map HIGH permit 10\n set local-preference 200\nexit\n!\nend\n",
     )];
     let wanted = "owner a 10.0.12.0/30 stub\nowner a 10.1.0.0/24 network\nnotice a 10.0.12.2\n";
-    assert!(rt; is_network(alloc, &running, wanted));
+    holds(&rt, is_network(alloc, &running, wanted));
     let cut: [File<'_>; 2] = [
         ("old/", ""),
         (
@@ -303,7 +304,10 @@ fn running_configuration(rt: HostRuntime) {
     ];
     let properties: [File<'_>; 1] = [("props", "")];
     let refused = ending_of(alloc, &CHECK, &cut, &properties, &[], &[]);
-    assert!(rt; ends(refused, 2, "refused: new: a.conf: BadValue line 28\n"));
+    holds(
+        &rt,
+        ends(refused, 2, "refused: new: a.conf: BadValue line 28\n"),
+    );
 }
 
 // A router with 64 links to another: at its end the addresses end in this number.
@@ -347,5 +351,5 @@ fn are_the_links(links: &[Link]) -> bool {
 #[test]
 fn sixty_four_links(rt: HostRuntime) {
     let net = sixty_four_links_net(rt.alloc());
-    assert!(rt; net.is_some_and(|net| are_the_links(net.links())));
+    holds(&rt, net.is_some_and(|net| are_the_links(net.links())));
 }

@@ -2,6 +2,7 @@
 
 use super::folders::LINE;
 use super::{CHECK, Ended, ends, files_of, run_over};
+use crate::asserting::holds;
 use net_types::{List, NoMemory, SourceFile, Text};
 use std::alloc::Global;
 
@@ -67,17 +68,18 @@ fn check_of_line(alloc: Global, routers: u8) -> Option<Ended> {
 fn sixty_four_routers_in_a_line(rt: HostRuntime) {
     let wanted =
         "route certificate report, version 1\nbase: routers 0, links 0, solved 0 of 0\nnew: routers 64, links 63, solved 1 of 1\np1: base not applicable by unknown router; new certified\nA certified property holds in every stable solution. That one exists is not claimed.\n";
-    assert!(rt; ends(check_of_line(rt.alloc(), 64), 0, wanted));
+    holds(&rt, ends(check_of_line(rt.alloc(), 64), 0, wanted));
 }
 
 #[test]
 fn sixty_five_files(rt: HostRuntime) {
-    assert!(rt;
+    holds(
+        &rt,
         ends(
             check_of_line(rt.alloc(), 65),
             2,
-            "refused: new: TooManyFiles 65\n"
-        )
+            "refused: new: TooManyFiles 65\n",
+        ),
     );
 }
 
@@ -101,7 +103,7 @@ fn sixty_five_files_before_the_change(rt: HostRuntime) {
         Ok(files) => run_over(alloc, &CHECK, files, &[], &[]),
         Err(NoMemory) => None,
     };
-    assert!(rt; ends(run, 2, "refused: base: TooManyFiles 65\n"));
+    holds(&rt, ends(run, 2, "refused: base: TooManyFiles 65\n"));
 }
 
 // A comment of so many bytes.
@@ -129,12 +131,13 @@ fn check_of_comment(alloc: Global, count: u32) -> Option<Ended> {
 fn longest_property_file(rt: HostRuntime) {
     let wanted =
         "route certificate report, version 1\nbase: routers 3, links 2, solved 0 of 0\nnew: routers 3, links 2, solved 0 of 0\nA certified property holds in every stable solution. That one exists is not claimed.\n";
-    assert!(rt; ends(check_of_comment(rt.alloc(), 262_144), 0, wanted));
-    assert!(rt;
+    holds(&rt, ends(check_of_comment(rt.alloc(), 262_144), 0, wanted));
+    holds(
+        &rt,
         ends(
             check_of_comment(rt.alloc(), 262_145),
             2,
-            "refused: properties: TooLong\n"
-        )
+            "refused: properties: TooLong\n",
+        ),
     );
 }

@@ -2,6 +2,7 @@
 
 use super::folders::{LINE, LINE_REPORT, PROPERTIES};
 use super::{CHECK, files_of, words_of};
+use crate::asserting::holds;
 use commands::run;
 use net_types::{List, SourceFile};
 use outside::{MemShelf, MemSink};
@@ -31,5 +32,5 @@ fn line_of_three_with_or_without_memory(rt: HostRuntime) {
         Ok(content) => reports_or_is_silent(alloc, content, LINE_REPORT),
         Err(_) => None,
     };
-    assert!(rt; run != Some(false));
+    holds(&rt, run != Some(false));
 }

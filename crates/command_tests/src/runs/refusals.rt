@@ -2,6 +2,7 @@
 
 use super::folders::{FROM_NOTHING, LINE, LINE_SPEAKING, OVERLAPPING, PROPERTIES};
 use super::{CHECK, File, ending_of, ends};
+use crate::asserting::holds;
 use std::alloc::Global;
 
 // A property file that asks for nothing.
@@ -13,15 +14,15 @@ fn applicability(rt: HostRuntime) {
     let unknown = ending_of(alloc, &CHECK, &FROM_NOTHING, &PROPERTIES, &[], &[]);
     let wanted =
         "route certificate report, version 1\nbase: routers 0, links 0, solved 0 of 0\nnew: routers 3, links 2, solved 1 of 1\np1: base not applicable by unknown router; new certified\nA certified property holds in every stable solution. That one exists is not claimed.\n";
-    assert!(rt; ends(unknown, 0, wanted));
+    holds(&rt, ends(unknown, 0, wanted));
     let overlapping = ending_of(alloc, &CHECK, &OVERLAPPING, &PROPERTIES, &[], &[]);
     let wanted =
         "route certificate report, version 1\nbase: routers 0, links 0, solved 0 of 0\nnew: routers 3, links 2, solved 0 of 0\np1: base not applicable by unknown router; new not applicable by prefix overlaps\nA certified property holds in every stable solution. That one exists is not claimed.\n";
-    assert!(rt; ends(overlapping, 1, wanted));
+    holds(&rt, ends(overlapping, 1, wanted));
     let none = ending_of(alloc, &CHECK, &LINE, &NOTHING_ASKED, &[], &[]);
     let wanted =
         "route certificate report, version 1\nbase: routers 3, links 2, solved 0 of 0\nnew: routers 3, links 2, solved 0 of 0\nA certified property holds in every stable solution. That one exists is not claimed.\n";
-    assert!(rt; ends(none, 0, wanted));
+    holds(&rt, ends(none, 0, wanted));
 }
 
 #[test]
@@ -37,7 +38,7 @@ fn a_router_without_a_way(rt: HostRuntime) {
     let run = ending_of(rt.alloc(), &CHECK, &cut, &PROPERTIES, &[], &[]);
     let wanted =
         "route certificate report, version 1\nbase: routers 0, links 0, solved 0 of 0\nnew: routers 2, links 0, solved 1 of 1\np1: base not applicable by unknown router; new not certified at {} by no sure route at r1\nA certified property holds in every stable solution. That one exists is not claimed.\n";
-    assert!(rt; ends(run, 1, wanted));
+    holds(&rt, ends(run, 1, wanted));
 }
 
 #[test]
@@ -57,7 +58,7 @@ fn two_properties_of_one_prefix(rt: HostRuntime) {
     let run = ending_of(rt.alloc(), &CHECK, &apart, &both, &[], &[]);
     let wanted =
         "route certificate report, version 1\nbase: routers 0, links 0, solved 0 of 0\nnew: routers 2, links 0, solved 1 of 1\np1: base not applicable by unknown router; new certified\np2: base not applicable by unknown router; new not certified at {} by no sure route at r1\nA certified property holds in every stable solution. That one exists is not claimed.\n";
-    assert!(rt; ends(run, 1, wanted));
+    holds(&rt, ends(run, 1, wanted));
 }
 
 // Whether a check of these folders, which asks for nothing, is refused with this line.
@@ -116,25 +117,44 @@ fn refused_bundles(rt: HostRuntime) {
         ),
     ];
     let alloc = rt.alloc();
-    assert!(rt; refuses(alloc, &one_asn, "refused: new: SameAs r1.conf r2.conf\n"));
-    assert!(rt; refuses(alloc, &foreign, "refused: new: r1.conf: ForeignAs line 4\n"));
-    assert!(rt; refuses(alloc, &shared, "refused: new: SharedSubnet 10.0.0.0/24\n"));
-    assert!(rt;
+    holds(
+        &rt,
+        refuses(alloc, &one_asn, "refused: new: SameAs r1.conf r2.conf\n"),
+    );
+    holds(
+        &rt,
+        refuses(alloc, &foreign, "refused: new: r1.conf: ForeignAs line 4\n"),
+    );
+    holds(
+        &rt,
+        refuses(alloc, &shared, "refused: new: SharedSubnet 10.0.0.0/24\n"),
+    );
+    holds(
+        &rt,
         refuses(
             alloc,
             &unsupported,
-            "refused: new: r1.conf: Unsupported line 2\n"
-        )
+            "refused: new: r1.conf: Unsupported line 2\n",
+        ),
     );
-    assert!(rt; refuses(alloc, &nameless, "refused: base: a.conf: NoHostname\n"));
-    assert!(rt; refuses(alloc, &twins, "refused: new: SameHost a.conf b.conf\n"));
-    assert!(rt; refuses(alloc, &twice, "refused: new: SameAddress a.conf a.conf\n"));
+    holds(
+        &rt,
+        refuses(alloc, &nameless, "refused: base: a.conf: NoHostname\n"),
+    );
+    holds(
+        &rt,
+        refuses(alloc, &twins, "refused: new: SameHost a.conf b.conf\n"),
+    );
+    holds(
+        &rt,
+        refuses(alloc, &twice, "refused: new: SameAddress a.conf a.conf\n"),
+    );
 }
 
 #[test]
 fn bgp_not_yet(rt: HostRuntime) {
     let line = ending_of(rt.alloc(), &CHECK, &LINE_SPEAKING, &PROPERTIES, &[], &[]);
-    assert!(rt; ends(line, 2, "refused: base: NoBgpYet r1\n"));
+    holds(&rt, ends(line, 2, "refused: base: NoBgpYet r1\n"));
     let speaking: [File<'_>; 4] = [
         (
             "old/r1.conf",
@@ -144,7 +164,10 @@ fn bgp_not_yet(rt: HostRuntime) {
         ("new/r1.conf", "hostname r1\nrouter bgp 65001\n"),
         ("new/r2.conf", "hostname r1\n"),
     ];
-    assert!(rt; refuses(rt.alloc(), &speaking, "refused: base: NoBgpYet r1\n"));
+    holds(
+        &rt,
+        refuses(rt.alloc(), &speaking, "refused: base: NoBgpYet r1\n"),
+    );
 }
 
 #[test]
@@ -154,7 +177,7 @@ fn line_refused_until_failures(rt: HostRuntime) {
         "[[property]]\nname = \"p1\"\nkind = \"reach\"\nrouter = \"r1\"\nprefix = \"10.9.0.3/32\"\nfailures = 1\n",
     )];
     let run = ending_of(rt.alloc(), &CHECK, &LINE, &one_failure, &[], &[]);
-    assert!(rt; ends(run, 2, "refused: properties: BadField 1\n"));
+    holds(&rt, ends(run, 2, "refused: properties: BadField 1\n"));
 }
 
 #[test]
@@ -179,9 +202,9 @@ fn refused_properties(rt: HostRuntime) {
     for (text, wanted) in cases {
         let props: [File<'_>; 1] = [("props", text)];
         let run = ending_of(rt.alloc(), &CHECK, &LINE, &props, &[], &[]);
-        assert!(rt; ends(run, 2, wanted));
+        holds(&rt, ends(run, 2, wanted));
     }
     let props: [File<'_>; 1] = [("props", one)];
     let run = ending_of(rt.alloc(), &CHECK, &LINE, &props, &[], &[]);
-    assert!(rt; run.is_some_and(|ended| ended.status == 0));
+    holds(&rt, run.is_some_and(|ended| ended.status == 0));
 }

@@ -3,6 +3,7 @@
 use super::bundles::network;
 use super::folders::{FROM_NOTHING, LINE, OVERLAPPING};
 use super::{CHECK, File, ending_of, ends};
+use crate::asserting::{holds, holds_at};
 use net_types::{FailSet, List, Net, NoMemory, Prefix, Text};
 use property_book::{Broken, Kind, Outcome, Property, Verdict};
 use report_text::{Side, report};
@@ -39,7 +40,7 @@ fn is_unasked(alloc: Global, files: &[File<'_>], wanted: &str) -> bool {
 fn notices(rt: HostRuntime) {
     let wanted =
         "route certificate report, version 1\nbase: routers 1, links 0, solved 0 of 0\nnew: routers 1, links 0, solved 0 of 0\nnotice base: a neighbor 10.0.12.2 has no matching end\nnotice base: a neighbor 10.0.12.3 has no matching end\nnotice new: a neighbor 10.0.12.2 has no matching end\nnotice new: a neighbor 10.0.12.3 has no matching end\nA certified property holds in every stable solution. That one exists is not claimed.\n";
-    assert!(rt; is_unasked(rt.alloc(), &ALONE, wanted));
+    holds(&rt, is_unasked(rt.alloc(), &ALONE, wanted));
 }
 
 // The report of one property of a network, which is on both sides, with this verdict on both.
@@ -109,9 +110,10 @@ fn verdicts_in_words(rt: HostRuntime) {
         ),
     ];
     for (links, broken, wanted) in cases {
-        assert!(rt;
+        holds_at(
+            &rt,
+            wanted,
             is_judged(rt.alloc(), links, broken, wanted) == Some(true),
-            "{wanted}"
         );
     }
 }
@@ -132,7 +134,7 @@ fn prefixes_that_are_not_owned(rt: HostRuntime) {
         "[[property]]\nname = \"p1\"\nkind = \"reach\"\nrouter = \"r1\"\nprefix = \"10.9.0.9/32\"\nfailures = 0\n[[property]]\nname = \"p2\"\nkind = \"reach\"\nrouter = \"r9\"\nprefix = \"10.9.0.9/32\"\nfailures = 0\n[[property]]\nname = \"p3\"\nkind = \"reach\"\nrouter = \"r1\"\nprefix = \"10.0.0.0/30\"\nfailures = 0\n";
     let wanted =
         "route certificate report, version 1\nbase: routers 3, links 2, solved 0 of 0\nnew: routers 3, links 2, solved 0 of 0\np1: base not applicable by prefix not owned; new not applicable by prefix not owned\np2: base not applicable by unknown router; new not applicable by unknown router\np3: base not applicable by prefix not owned; new not applicable by prefix not owned\nA certified property holds in every stable solution. That one exists is not claimed.\n";
-    assert!(rt; asked(rt.alloc(), &LINE, properties, 1, wanted));
+    holds(&rt, asked(rt.alloc(), &LINE, properties, 1, wanted));
 }
 
 #[test]
@@ -151,10 +153,10 @@ fn prefixes_that_overlap(rt: HostRuntime) {
         "[[property]]\nname = \"p1\"\nkind = \"reach\"\nrouter = \"r1\"\nprefix = \"10.0.0.0/16\"\nfailures = 0\n";
     let wanted =
         "route certificate report, version 1\nbase: routers 0, links 0, solved 0 of 0\nnew: routers 3, links 2, solved 0 of 0\np1: base not applicable by unknown router; new not applicable by prefix overlaps\nA certified property holds in every stable solution. That one exists is not claimed.\n";
-    assert!(rt; asked(alloc, &links, properties, 1, wanted));
+    holds(&rt, asked(alloc, &links, properties, 1, wanted));
     let covering =
         "[[property]]\nname = \"p1\"\nkind = \"reach\"\nrouter = \"r1\"\nprefix = \"10.9.0.0/24\"\nfailures = 0\n";
-    assert!(rt; asked(alloc, &OVERLAPPING, covering, 1, wanted));
+    holds(&rt, asked(alloc, &OVERLAPPING, covering, 1, wanted));
 }
 
 #[test]
@@ -172,7 +174,10 @@ fn prefixes_are_counted_once(rt: HostRuntime) {
         "[[property]]\nname = \"p1\"\nkind = \"reach\"\nrouter = \"r1\"\nprefix = \"10.9.0.3/32\"\nfailures = 0\n[[property]]\nname = \"p2\"\nkind = \"reach\"\nrouter = \"r1\"\nprefix = \"10.9.0.2/32\"\nfailures = 0\n[[property]]\nname = \"p3\"\nkind = \"reach\"\nrouter = \"r2\"\nprefix = \"10.9.0.3/32\"\nfailures = 0\n";
     let wanted =
         "route certificate report, version 1\nbase: routers 0, links 0, solved 0 of 0\nnew: routers 3, links 2, solved 2 of 2\np1: base not applicable by unknown router; new certified\np2: base not applicable by unknown router; new certified\np3: base not applicable by unknown router; new certified\nA certified property holds in every stable solution. That one exists is not claimed.\n";
-    assert!(rt; asked(rt.alloc(), &two_loopbacks, properties, 0, wanted));
+    holds(
+        &rt,
+        asked(rt.alloc(), &two_loopbacks, properties, 0, wanted),
+    );
 }
 
 #[test]
@@ -190,5 +195,5 @@ fn an_owner_without_ospf(rt: HostRuntime) {
         "[[property]]\nname = \"p1\"\nkind = \"reach\"\nrouter = \"r1\"\nprefix = \"10.9.0.3/32\"\nfailures = 0\n[[property]]\nname = \"p2\"\nkind = \"reach\"\nrouter = \"r3\"\nprefix = \"10.9.0.3/32\"\nfailures = 0\n";
     let wanted =
         "route certificate report, version 1\nbase: routers 0, links 0, solved 0 of 0\nnew: routers 3, links 2, solved 1 of 1\np1: base not applicable by unknown router; new not certified at {} by no sure route at r1\np2: base not applicable by unknown router; new certified\nA certified property holds in every stable solution. That one exists is not claimed.\n";
-    assert!(rt; asked(rt.alloc(), &apart, properties, 1, wanted));
+    holds(&rt, asked(rt.alloc(), &apart, properties, 1, wanted));
 }

@@ -10,6 +10,7 @@ use super::networks::{
     TWO_STABLE, TWO_WAYS, WITHOUT_M, X_LEARNED, X_LOCAL,
 };
 use super::{Ended, File, ending_of, ends, run_over};
+use crate::asserting::{holds, holds_at};
 use net_types::{List, NoMemory, SourceFile, Text};
 use std::alloc::Global;
 use std::process::Abort;
@@ -29,23 +30,29 @@ fn tells(alloc: Global, files: &[File<'_>], labels: &str, status: u8, text: &str
 #[test]
 fn two_stable_solutions(rt: HostRuntime) {
     let alloc = rt.alloc();
-    assert!(rt; tells(alloc, &TWO_STABLE, THROUGH_A, 0, "stable\n"));
-    assert!(rt; tells(alloc, &TWO_STABLE, THROUGH_B, 0, "stable\n"));
-    assert!(rt; tells(alloc, &TWO_STABLE, BOTH_DIRECT, 1, "not stable at a\n"));
+    holds(&rt, tells(alloc, &TWO_STABLE, THROUGH_A, 0, "stable\n"));
+    holds(&rt, tells(alloc, &TWO_STABLE, THROUGH_B, 0, "stable\n"));
+    holds(
+        &rt,
+        tells(alloc, &TWO_STABLE, BOTH_DIRECT, 1, "not stable at a\n"),
+    );
 }
 
 #[test]
 fn local_or_learned(rt: HostRuntime) {
     let alloc = rt.alloc();
-    assert!(rt; tells(alloc, &LOCAL_OR_LEARNED, X_LEARNED, 0, "stable\n"));
-    assert!(rt; tells(alloc, &LOCAL_OR_LEARNED, X_LOCAL, 0, "stable\n"));
+    holds(
+        &rt,
+        tells(alloc, &LOCAL_OR_LEARNED, X_LEARNED, 0, "stable\n"),
+    );
+    holds(&rt, tells(alloc, &LOCAL_OR_LEARNED, X_LOCAL, 0, "stable\n"));
 }
 
 #[test]
 fn redistribution_loop_stable(rt: HostRuntime) {
     let alloc = rt.alloc();
-    assert!(rt; tells(alloc, &LOOP, LOOPING, 0, "stable\n"));
-    assert!(rt; tells(alloc, &LOOP, WITHOUT_M, 1, "not stable at m\n"));
+    holds(&rt, tells(alloc, &LOOP, LOOPING, 0, "stable\n"));
+    holds(&rt, tells(alloc, &LOOP, WITHOUT_M, 1, "not stable at m\n"));
 }
 
 #[test]
@@ -78,7 +85,7 @@ fn no_stable_solution(rt: HostRuntime) {
         ),
     ];
     for (labels, wanted) in cases {
-        assert!(rt; tells(rt.alloc(), &NONE_STABLE, labels, 1, wanted));
+        holds(&rt, tells(rt.alloc(), &NONE_STABLE, labels, 1, wanted));
     }
 }
 
@@ -89,15 +96,19 @@ fn labels_refused(rt: HostRuntime) {
     let other =
         "prefix = \"10.9.0.0/24\"\n[[label]]\nrouter = \"d\"\nsource = \"local\"\nweight = 32768\npreference = 100\npath = []\norigin = \"igp\"\nmed = 0\ncommunities = []\n[[label]]\nrouter = \"a\"\nsource = \"learned\"\nlink = 2\nweight = 0\npreference = 100\npath = [\"d\"]\norigin = \"igp\"\nmed = 0\ncommunities = []\n[[label]]\nrouter = \"b\"\nsource = \"learned\"\nlink = 0\nweight = 0\npreference = 200\npath = [\"a\", \"d\"]\norigin = \"igp\"\nmed = 0\ncommunities = []\n";
     let alloc = rt.alloc();
-    assert!(rt; tells(alloc, &TWO_STABLE, past, 2, "refused: labels: BadField 0\n"));
-    assert!(rt;
+    holds(
+        &rt,
+        tells(alloc, &TWO_STABLE, past, 2, "refused: labels: BadField 0\n"),
+    );
+    holds(
+        &rt,
         tells(
             alloc,
             &TWO_STABLE,
             other,
             2,
-            "refused: labels: BadField 2\n"
-        )
+            "refused: labels: BadField 2\n",
+        ),
     );
 }
 
@@ -105,18 +116,19 @@ fn labels_refused(rt: HostRuntime) {
 fn refused_before_the_labels(rt: HostRuntime) {
     let alloc = rt.alloc();
     let bad: [File<'_>; 1] = [("net/a.conf", "hostname a\nip route 0.0.0.0/0 10.0.0.1\n")];
-    assert!(rt;
+    holds(
+        &rt,
         tells(
             alloc,
             &bad,
             "",
             2,
-            "refused: bundle: a.conf: Unsupported line 2\n"
-        )
+            "refused: bundle: a.conf: Unsupported line 2\n",
+        ),
     );
-    assert!(rt; tells(alloc, &[], "", 2, "refused: no such path net\n"));
+    holds(&rt, tells(alloc, &[], "", 2, "refused: no such path net\n"));
     let unlabelled = ending_of(alloc, &STABLE, &TWO_STABLE, &[], &[], &[]);
-    assert!(rt; ends(unlabelled, 2, "refused: no such path labels\n"));
+    holds(&rt, ends(unlabelled, 2, "refused: no such path labels\n"));
 }
 
 // The text of a file with the lines that it has besides.
@@ -193,7 +205,7 @@ fn says(ended: Option<Ended>, breaks: Option<&str>) -> bool {
 fn check(rt: &impl Abort, alloc: Global, files: &[File<'_>], prefix: &str, cases: &[Case]) {
     for case in cases {
         let ended = answer_of(alloc, files, prefix, case);
-        assert!(rt; says(ended, case.breaks), "{}", case.name);
+        holds_at(rt, case.name, says(ended, case.breaks));
     }
 }
 

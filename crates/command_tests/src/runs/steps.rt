@@ -3,6 +3,7 @@
 use super::folders::{LINE, LINE_REPORT, PROPERTIES};
 use super::networks::{THROUGH_A, TWO_STABLE};
 use super::{CHECK, File, ending_of, ends, files_of, words_of};
+use crate::asserting::holds;
 use commands::run;
 use net_types::NoMemory;
 use outside::{MemShelf, MemSink};
@@ -19,15 +20,21 @@ fn refuses(alloc: Global, files: &[File<'_>], line: &str) -> bool {
 #[test]
 fn all_is_read_before_it_is_judged(rt: HostRuntime) {
     let alloc = rt.alloc();
-    assert!(rt; refuses(alloc, &[BAD], "refused: no such path new\n"));
+    holds(&rt, refuses(alloc, &[BAD], "refused: no such path new\n"));
     let no_properties: [File<'_>; 2] = [BAD, ("new/", "")];
-    assert!(rt; refuses(alloc, &no_properties, "refused: no such path props\n"));
+    holds(
+        &rt,
+        refuses(alloc, &no_properties, "refused: no such path props\n"),
+    );
     let both_bad: [File<'_>; 3] = [("old/", ""), ("new/a.conf", "! nothing\n"), ("props", "[")];
-    assert!(rt; refuses(alloc, &both_bad, "refused: new: a.conf: NoHostname\n"));
+    holds(
+        &rt,
+        refuses(alloc, &both_bad, "refused: new: a.conf: NoHostname\n"),
+    );
     let bundle: [File<'_>; 1] = [("net/a.conf", "hostname a\nip route 0.0.0.0/0 10.0.0.1\n")];
     let words = ["stable", "net", "labels"];
     let unlabelled = ending_of(alloc, &words, &bundle, &[], &[], &[]);
-    assert!(rt; ends(unlabelled, 2, "refused: no such path labels\n"));
+    holds(&rt, ends(unlabelled, 2, "refused: no such path labels\n"));
 }
 
 #[test]
@@ -38,7 +45,10 @@ fn the_least_host_that_speaks_bgp(rt: HostRuntime) {
         ("new/", ""),
         ("props", ""),
     ];
-    assert!(rt; refuses(rt.alloc(), &speaking, "refused: base: NoBgpYet c\n"));
+    holds(
+        &rt,
+        refuses(rt.alloc(), &speaking, "refused: base: NoBgpYet c\n"),
+    );
 }
 
 #[test]
@@ -47,7 +57,7 @@ fn a_name_of_five_bytes_is_a_configuration(rt: HostRuntime) {
     let run = ending_of(rt.alloc(), &CHECK, &LINE, &files, &[], &[]);
     let wanted =
         "route certificate report, version 1\nbase: routers 3, links 2, solved 1 of 1\nnew: routers 4, links 2, solved 1 of 1\np1: base certified; new certified\nA certified property holds in every stable solution. That one exists is not claimed.\n";
-    assert!(rt; ends(run, 0, wanted));
+    holds(&rt, ends(run, 0, wanted));
 }
 
 #[test]
@@ -56,23 +66,23 @@ fn each_call_of_stable_fails(rt: HostRuntime) {
     let labels: [File<'_>; 1] = [("labels", THROUGH_A)];
     for call in 1..6 {
         let run = ending_of(rt.alloc(), &words, &TWO_STABLE, &labels, &[call], &[]);
-        assert!(rt; ends(run, 4, "read fault\n"));
+        holds(&rt, ends(run, 4, "read fault\n"));
     }
     let past = ending_of(rt.alloc(), &words, &TWO_STABLE, &labels, &[6], &[]);
-    assert!(rt; ends(past, 0, "stable\n"));
+    holds(&rt, ends(past, 0, "stable\n"));
 }
 
 #[test]
 fn each_text_is_cut_by_a_fault(rt: HostRuntime) {
     let alloc = rt.alloc();
     let usage = ending_of(alloc, &[], &LINE, &PROPERTIES, &[], &[1]);
-    assert!(rt; ends(usage, 5, ""));
+    holds(&rt, ends(usage, 5, ""));
     let refused = ending_of(alloc, &CHECK, &[], &PROPERTIES, &[], &[1]);
-    assert!(rt; ends(refused, 5, ""));
+    holds(&rt, ends(refused, 5, ""));
     let unread = ending_of(alloc, &CHECK, &LINE, &PROPERTIES, &[1], &[1]);
-    assert!(rt; ends(unread, 5, ""));
+    holds(&rt, ends(unread, 5, ""));
     let second = ending_of(alloc, &CHECK, &LINE, &PROPERTIES, &[], &[2]);
-    assert!(rt; ends(second, 0, LINE_REPORT));
+    holds(&rt, ends(second, 0, LINE_REPORT));
 }
 
 // The status of a check of the line into a sink with room for ten bytes, and whether it holds these.
@@ -90,5 +100,8 @@ fn cut_at_ten(alloc: Global, wanted: &[u8]) -> Result<(u8, bool), NoMemory> {
 
 #[test]
 fn a_beginning_is_written_where_the_output_is_full(rt: HostRuntime) {
-    assert!(rt; cut_at_ten(rt.alloc(), b"route cert").ok() == Some((5, true)));
+    holds(
+        &rt,
+        cut_at_ten(rt.alloc(), b"route cert").ok() == Some((5, true)),
+    );
 }

@@ -1,5 +1,6 @@
 //! The text of each refusal.
 
+use crate::asserting::holds_at;
 use commands::{bundle_text, form_text};
 use net_types::{BundleRefusal, FormRefusal, NetRefusal, Prefix, ReadRefusal};
 use std::alloc::Global;
@@ -50,7 +51,7 @@ fn texts_of_bundles(rt: HostRuntime) {
         ),
     ];
     for (refusal, wanted) in cases {
-        assert!(rt; is_bundle_text(rt.alloc(), refusal, wanted), "{wanted}");
+        holds_at(&rt, wanted, is_bundle_text(rt.alloc(), refusal, wanted));
     }
 }
 
@@ -64,6 +65,6 @@ fn texts_of_forms(rt: HostRuntime) {
         (FormRefusal::TooMany(65), "TooMany 65"),
     ];
     for (refusal, wanted) in cases {
-        assert!(rt; is_form_text(rt.alloc(), refusal, wanted), "{wanted}");
+        holds_at(&rt, wanted, is_form_text(rt.alloc(), refusal, wanted));
     }
 }

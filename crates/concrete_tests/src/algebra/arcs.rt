@@ -4,6 +4,7 @@
 use super::networks::{
     Entry, NOTHING, PERMIT_ALL, Plain, Side, is_wanted, network, prefix, route_of,
 };
+use crate::asserting::holds_at;
 use concrete_algebra::{export, import};
 use net_types::{Arc, Origin};
 use std::alloc::Global;
@@ -222,7 +223,7 @@ fn sends(rt: &impl Abort, alloc: Global, entry: Entry, case: &Case) -> Result<()
     let net = network(alloc, entry, [NOTHING; 3], [Side::Map; 3], [case.side; 3])?;
     let before = route_of(alloc, &case.before)?;
     let given = export(alloc, &net, prefix(), ARC, &before)?;
-    assert!(rt; is_wanted(given.as_ref(), case.wanted.as_ref()), "{name}");
+    holds_at(rt, name, is_wanted(given.as_ref(), case.wanted.as_ref()));
     Ok(())
 }
 
@@ -231,7 +232,7 @@ fn takes(rt: &impl Abort, alloc: Global, entry: Entry, case: &Case) -> Result<()
     let net = network(alloc, entry, [NOTHING; 3], [case.side; 3], [Side::Map; 3])?;
     let before = route_of(alloc, &case.before)?;
     let given = import(alloc, &net, prefix(), ARC, &before)?;
-    assert!(rt; is_wanted(given.as_ref(), case.wanted.as_ref()), "{name}");
+    holds_at(rt, name, is_wanted(given.as_ref(), case.wanted.as_ref()));
     Ok(())
 }
 

@@ -7,6 +7,7 @@ ghost use Rattle.net_types.specs.Distance.{distance_at};
 use super::networks::{
     Entry, NOTHING, Origins, PERMIT_ALL, Plain, Side, network, prefix, route_of,
 };
+use crate::asserting::holds_at;
 use concrete_algebra::{StableAnswer, check_stable};
 use net_types::{Arc, BundleRefusal, FailSet, NoMemory, Origin, Route};
 use std::alloc::Global;
@@ -297,7 +298,7 @@ fn check(rt: &impl Abort, alloc: Global, case: &Case) -> Result<(), Fail> {
     let name = case.name;
     let failed = FailSet::of(case.failed).ok_or("not ascending")?;
     let answer = answer(alloc, case, failed)?;
-    assert!(rt; answer == case.wanted, "{name}");
+    holds_at(rt, name, answer == case.wanted);
     Ok(())
 }
 

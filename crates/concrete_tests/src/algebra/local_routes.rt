@@ -5,6 +5,7 @@ ghost use Rattle.std.specs.Prelude.{◌<◌, ◌^◌, IfSome};
 use super::networks::{
     Entry, NOTHING, Origins, PERMIT_ALL, Plain, Side, is_wanted, network, prefix,
 };
+use crate::asserting::holds_at;
 use concrete_algebra::local_route;
 use net_types::Origin;
 use std::alloc::Global;
@@ -149,7 +150,7 @@ fn check(rt: &impl Abort, alloc: Global, case: &Case) -> Result<(), Fail> {
     let origins = [case.origins, NOTHING, NOTHING];
     let net = network(alloc, RAISING, origins, [Side::Open; 3], [Side::Open; 3])?;
     let given = local_route(alloc, &net, prefix(), 0, distance_of(case))?;
-    assert!(rt; is_wanted(given.as_ref(), case.wanted.as_ref()), "{name}");
+    holds_at(rt, name, is_wanted(given.as_ref(), case.wanted.as_ref()));
     Ok(())
 }
 

@@ -1,6 +1,7 @@
 //! What maps give of a route at router a.
 
 use super::networks::{Entry, NOTHING, PERMIT_ALL, Plain, Side, is_wanted, network, route_of};
+use crate::asserting::holds_at;
 use concrete_algebra::run_map;
 use net_types::{Origin, Policy, Prefix};
 use std::alloc::Global;
@@ -368,7 +369,7 @@ fn check(rt: &impl Abort, alloc: Global, case: &Case) -> Result<(), Fail> {
         },
     )?;
     let given = run_map(alloc, &net, 0, Policy::Map(0), prefix, &before)?;
-    assert!(rt; is_wanted(given.as_ref(), case.wanted.as_ref()), "{name}");
+    holds_at(rt, name, is_wanted(given.as_ref(), case.wanted.as_ref()));
     Ok(())
 }
 

@@ -1,6 +1,7 @@
 //! Which of two routes is better, on every pair of twelve.
 
 use super::networks::{NOTHING, PERMIT_ALL, Plain, Side, network, route_of};
+use crate::asserting::holds;
 use concrete_algebra::better;
 use net_types::{Arc, Net, NoMemory, Origin, Route};
 use std::alloc::Global;
@@ -152,7 +153,7 @@ fn every_pair_of_twelve(rt: HostRuntime) -> Result<(), Fail> {
     let routes = routes(alloc)?;
     for (route, wanted) in routes.iter().zip(BETTER.iter()) {
         let row = row(alloc, &net, route, &routes)?;
-        assert!(rt; row.as_slice() == wanted.as_bytes());
+        holds(&rt, row.as_slice() == wanted.as_bytes());
     }
     Ok(())
 }

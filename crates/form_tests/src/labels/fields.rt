@@ -1,6 +1,7 @@
 //! One field of a label changed, or left out.
 
 use super::{refusal_of, triangle};
+use crate::asserting::{holds, holds_at};
 use label_file::read_labels;
 use net_types::{FormRefusal, NoMemory};
 use std::alloc::Global;
@@ -111,10 +112,10 @@ fn longest_path(rt: HostRuntime) -> Result<(), Fail> {
     let alloc = rt.alloc();
     let longest = path_of(alloc, 1_344)?;
     let refusal = refusal_with(alloc, "path", &longest)?;
-    assert_eq!(rt; refusal, None);
+    holds(&rt, refusal == None);
     let longer = path_of(alloc, 1_345)?;
     let refusal = refusal_with(alloc, "path", &longer)?;
-    assert_eq!(rt; refusal, Some(FormRefusal::BadField(1)));
+    holds(&rt, refusal == Some(FormRefusal::BadField(1)));
     Ok(())
 }
 
@@ -128,7 +129,7 @@ fn one_field_changed(rt: HostRuntime) -> Result<(), Fail> {
         } else {
             Some(FormRefusal::BadField(1))
         };
-        assert_eq!(rt; refusal, wanted, "{key} = {value}");
+        holds_at(&rt, key, refusal == wanted);
     }
     Ok(())
 }

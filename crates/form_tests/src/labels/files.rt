@@ -1,6 +1,7 @@
 //! Whole files: the top level, which table decides, and a label each of whose fields has a value of its own.
 
 use super::{arc, refusal_of, triangle};
+use crate::asserting::{holds, holds_at};
 use label_file::read_labels;
 use net_types::{FormRefusal, Origin};
 use std::test::Fail;
@@ -134,7 +135,7 @@ fn whole_files(rt: HostRuntime) -> Result<(), Fail> {
     let net = triangle(rt.alloc())?;
     for file in &FILES {
         let read = read_labels(rt.alloc(), &net, file.text.as_bytes());
-        assert_eq!(rt; refusal_of(read), file.wanted, "{}", file.name);
+        holds_at(&rt, file.name, refusal_of(read) == file.wanted);
     }
     Ok(())
 }
@@ -146,10 +147,10 @@ fn failed_links(rt: HostRuntime) -> Result<(), Fail> {
     let Ok(labels) = read_labels(rt.alloc(), &net, text) else {
         return Err("refused")?;
     };
-    assert_eq!(rt; labels.failed.as_slice(), [0, 2].as_slice());
+    holds(&rt, labels.failed.as_slice() == [0, 2].as_slice());
     let held = labels.labels.as_slice();
-    assert_eq!(rt; held.len(), 3);
-    assert!(rt; held.iter().all(|label| label.is_none()));
+    holds(&rt, held.len() == 3);
+    holds(&rt, held.iter().all(|label| label.is_none()));
     Ok(())
 }
 
@@ -164,10 +165,10 @@ fn each_field_of_a_label(rt: HostRuntime) -> Result<(), Fail> {
     let [Some(a), None, None] = labels.labels.as_slice() else {
         return Err("not a alone")?;
     };
-    assert_eq!(rt; a.source, arc(1, true));
-    assert_eq!(rt; (a.weight, a.preference, a.med), (7, 8, 9));
-    assert_eq!(rt; a.path.as_slice(), [2, 1, 2].as_slice());
-    assert_eq!(rt; a.origin, Origin::Egp);
-    assert_eq!(rt; a.communities.word(), 2);
+    holds(&rt, a.source == arc(1, true));
+    holds(&rt, (a.weight, a.preference, a.med) == (7, 8, 9));
+    holds(&rt, a.path.as_slice() == [2, 1, 2].as_slice());
+    holds(&rt, a.origin == Origin::Egp);
+    holds(&rt, a.communities.word() == 2);
     Ok(())
 }

@@ -1,5 +1,6 @@
 //! Lines of community lists.
 
+use crate::asserting::holds_at;
 use frr_policy::{LineRefusal, read_community_list_line, words};
 use net_types::{CommunityEntry, CommunityList, List, Text};
 use std::alloc::AllocError;
@@ -48,10 +49,10 @@ static ACCEPTED: [Accepted; 6] = [
 fn community_list_lines(rt: HostRuntime) -> Result<(), Fail> {
     for (line, name, seq, permit, values) in &ACCEPTED {
         let (list, entry) = read(&rt, line, &[])?;
-        assert_eq!(rt; list.as_str(), *name, "{line}");
-        assert_eq!(rt; entry.seq, *seq, "{line}");
-        assert_eq!(rt; entry.permit, *permit, "{line}");
-        assert_eq!(rt; entry.values.as_slice(), *values, "{line}");
+        holds_at(&rt, line, list.as_str() == *name);
+        holds_at(&rt, line, entry.seq == *seq);
+        holds_at(&rt, line, entry.permit == *permit);
+        holds_at(&rt, line, entry.values.as_slice() == *values);
     }
     Ok(())
 }
@@ -83,7 +84,7 @@ static BAD: [&str; 20] = [
 fn community_list_lines_that_do_not_fit(rt: HostRuntime) {
     for line in &BAD {
         let refusal = read(&rt, line, &[]).err();
-        assert_eq!(rt; refusal, Some(LineRefusal::BadValue), "{line}");
+        holds_at(&rt, line, refusal == Some(LineRefusal::BadValue));
     }
 }
 
@@ -112,7 +113,7 @@ fn a_number_and_a_standard_name_are_one_list(rt: HostRuntime) -> Result<(), Fail
     for (line, wanted) in cases {
         let list = list_7(&rt)?;
         let answer = read(&rt, line, &[list]).map(|(_name, entry)| entry.seq);
-        assert_eq!(rt; answer, wanted, "{line}");
+        holds_at(&rt, line, answer == wanted);
     }
     Ok(())
 }

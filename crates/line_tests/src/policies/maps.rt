@@ -1,5 +1,6 @@
 //! Lines of route maps.
 
+use crate::asserting::{holds, holds_at};
 use frr_policy::{LineRefusal, MapStep, read_map_line, words};
 use net_types::{List, MapEntry, NO_EXPORT, Origin, RouteMap, SetCommunity, Sets, Text};
 use std::test::Fail;
@@ -78,7 +79,7 @@ fn a_block_from_its_end(rt: HostRuntime) -> Result<(), Fail> {
     for line in BLOCK.iter().rev() {
         entry = changed(&rt, line, &entry)?;
     }
-    assert!(rt; is_block(&entry));
+    holds(&rt, is_block(&entry));
     Ok(())
 }
 
@@ -88,13 +89,13 @@ fn a_block_with_each_row(rt: HostRuntime) -> Result<(), Fail> {
     for line in &BLOCK {
         entry = changed(&rt, line, &entry)?;
     }
-    assert!(rt; entry.seq == 65_535 && !entry.permit);
-    assert!(rt; is_block(&entry));
+    holds(&rt, entry.seq == 65_535 && !entry.permit);
+    holds(&rt, is_block(&entry));
     for line in &BLOCK {
         let refusal = changed(&rt, line, &entry).err();
-        assert_eq!(rt; refusal, Some(LineRefusal::Repeated), "{line}");
+        holds_at(&rt, line, refusal == Some(LineRefusal::Repeated));
         let refusal = read(&rt, line, &[], None).err();
-        assert_eq!(rt; refusal, Some(LineRefusal::OutOfPlace), "{line}");
+        holds_at(&rt, line, refusal == Some(LineRefusal::OutOfPlace));
     }
     Ok(())
 }
@@ -156,14 +157,14 @@ fn refused_lines(rt: HostRuntime) -> Result<(), Fail> {
     let entry = begun(&rt, "route-map M permit 1")?;
     for line in &BAD {
         let refusal = read(&rt, line, &[], Some(&entry)).err();
-        assert_eq!(rt; refusal, Some(LineRefusal::BadValue), "{line}");
+        holds_at(&rt, line, refusal == Some(LineRefusal::BadValue));
     }
     for line in &UNSUPPORTED {
         let refusal = read(&rt, line, &[], None).err();
-        assert_eq!(rt; refusal, Some(LineRefusal::Unsupported), "{line}");
+        holds_at(&rt, line, refusal == Some(LineRefusal::Unsupported));
     }
     let refusal = read(&rt, "set metric low", &[], None).err();
-    assert_eq!(rt; refusal, Some(LineRefusal::OutOfPlace));
+    holds(&rt, refusal == Some(LineRefusal::OutOfPlace));
     Ok(())
 }
 
@@ -198,7 +199,7 @@ fn lines_behind_one_of_their_row(rt: HostRuntime) -> Result<(), Fail> {
     for (first, second, wanted) in &BEHIND {
         let entry = changed(&rt, first, &fresh)?;
         let refusal = changed(&rt, second, &entry).err();
-        assert_eq!(rt; refusal, Some(*wanted), "{second}");
+        holds_at(&rt, second, refusal == Some(*wanted));
     }
     Ok(())
 }
@@ -207,22 +208,22 @@ fn lines_behind_one_of_their_row(rt: HostRuntime) -> Result<(), Fail> {
 fn other_values(rt: HostRuntime) -> Result<(), Fail> {
     let entry = begun(&rt, "route-map M permit 1")?;
     let cleared = changed(&rt, "set community none", &entry)?;
-    assert!(rt; matches!(&cleared.sets.community, SetCommunity::Clear));
+    holds(&rt, matches!(&cleared.sets.community, SetCommunity::Clear));
     let replaced = changed(&rt, "set community 1:1 0:0 1:1", &entry)?;
     let is_replaced = match &replaced.sets.community {
         SetCommunity::Replace(values) => values.as_slice() == [65_537, 0, 65_537].as_slice(),
         _ => false,
     };
-    assert!(rt; is_replaced);
+    holds(&rt, is_replaced);
     let lines = [
         ("set origin igp", Origin::Igp),
         ("set origin incomplete", Origin::Incomplete),
     ];
     for (line, wanted) in lines {
-        assert_eq!(rt;
-            changed(&rt, line, &entry)?.sets.origin,
-            Some(wanted),
-            "{line}"
+        holds_at(
+            &rt,
+            line,
+            changed(&rt, line, &entry)?.sets.origin == Some(wanted),
         );
     }
     let ten = changed(
@@ -230,7 +231,7 @@ fn other_values(rt: HostRuntime) -> Result<(), Fail> {
         "set as-path prepend 1 2 3 4 5 6 7 8 9 4294967295",
         &entry,
     )?;
-    assert_eq!(rt; ten.sets.prepend.len(), 10);
+    holds(&rt, ten.sets.prepend.len() == 10);
     Ok(())
 }
 
@@ -259,7 +260,7 @@ fn numbers_of_map_entries(rt: HostRuntime) -> Result<(), Fail> {
     for (count, line, wanted) in cases {
         let map = map_of(&rt, count)?;
         let refusal = read(&rt, line, &[map], None).err();
-        assert_eq!(rt; refusal, wanted, "{line}");
+        holds_at(&rt, line, refusal == wanted);
     }
     Ok(())
 }
@@ -283,9 +284,9 @@ fn an_entry_beside_one_that_is_open(rt: HostRuntime) -> Result<(), Fail> {
     let map = map_of(&rt, 10)?;
     let open = changed(&rt, "set weight 1", &begun(&rt, "route-map M permit 10")?)?;
     let step = read(&rt, "route-map M deny 20", &[map], Some(&open))?;
-    assert!(rt; begins_deny_20(&step));
+    holds(&rt, begins_deny_20(&step));
     let map = map_of(&rt, 10)?;
     let again = read(&rt, "route-map M permit 10", &[map], Some(&open));
-    assert_eq!(rt; again.err(), Some(LineRefusal::Repeated));
+    holds(&rt, again.err() == Some(LineRefusal::Repeated));
     Ok(())
 }

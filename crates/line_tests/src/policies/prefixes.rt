@@ -1,5 +1,6 @@
 //! Lines of prefix lists.
 
+use crate::asserting::holds_at;
 use frr_policy::{LineRefusal, read_prefix_list_line, words};
 use net_types::{List, Prefix, PrefixEntry, PrefixList, Text};
 use std::alloc::AllocError;
@@ -79,8 +80,8 @@ fn prefix_list_lines(rt: HostRuntime) -> Result<(), Fail> {
             least,
             most,
         };
-        assert_eq!(rt; entry, wanted, "{line}");
-        assert!(rt; line.starts_with(name.as_str()), "{line}");
+        holds_at(&rt, line, entry == wanted);
+        holds_at(&rt, line, line.starts_with(name.as_str()));
     }
     Ok(())
 }
@@ -121,7 +122,7 @@ static BAD: [&str; 29] = [
 fn prefix_list_lines_that_do_not_fit(rt: HostRuntime) {
     for line in &BAD {
         let refusal = read(&rt, line, &[]).err();
-        assert_eq!(rt; refusal, Some(LineRefusal::BadValue), "{line}");
+        holds_at(&rt, line, refusal == Some(LineRefusal::BadValue));
     }
 }
 
@@ -244,7 +245,7 @@ fn numbers_of_entries(rt: HostRuntime) -> Result<(), Fail> {
     for (numbers, line, wanted) in cases {
         let list = list_of(&rt, numbers)?;
         let answer = read(&rt, line, &[list]).map(|(_name, entry)| entry.seq);
-        assert_eq!(rt; answer, wanted, "{line}");
+        holds_at(&rt, line, answer == wanted);
     }
     Ok(())
 }

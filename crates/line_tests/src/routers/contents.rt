@@ -1,6 +1,7 @@
 //! What a file says: its blocks opened again, its entries out of order, its neighbors.
 
 use super::read;
+use crate::asserting::holds;
 use net_types::{Interface, MapEntry, Neighbor, Prefix, RouterConfig, Text};
 use std::test::Fail;
 
@@ -120,9 +121,9 @@ fn has_maps(config: &RouterConfig) -> bool {
 #[test]
 fn blocks_and_entries(rt: HostRuntime) -> Result<(), Fail> {
     let config = read(&rt, TEXT).map_err(|_refusal| "refused")?;
-    assert!(rt; has_interfaces(&config));
-    assert!(rt; has_networks(&config));
-    assert!(rt; has_neighbors(&config));
-    assert!(rt; has_maps(&config));
+    holds(&rt, has_interfaces(&config));
+    holds(&rt, has_networks(&config));
+    holds(&rt, has_neighbors(&config));
+    holds(&rt, has_maps(&config));
     Ok(())
 }

@@ -1,6 +1,7 @@
 //! A router's running configuration.
 
 use super::read;
+use crate::asserting::holds;
 use net_types::{BgpConfig, Prefix, ReadRefusal};
 use std::test::Fail;
 
@@ -65,18 +66,21 @@ fn has_network(bgp: &BgpConfig) -> bool {
 fn running_configuration(rt: HostRuntime) -> Result<(), Fail> {
     let text = format!(in rt.alloc(); "{BEFORE_MAPS}{MAPS}")?;
     let result = read(&rt, text.as_str());
-    assert!(rt; result.is_ok());
+    holds(&rt, result.is_ok());
     if let Ok(config) = result {
-        assert_eq!(rt; config.host.as_str(), "a");
-        assert!(rt; config.interfaces.len() == 1 && config.ospf.is_none());
-        assert!(rt; config.maps.len() == 1 && config.prefix_lists.is_empty());
+        holds(&rt, config.host.as_str() == "a");
+        holds(&rt, config.interfaces.len() == 1 && config.ospf.is_none());
+        holds(
+            &rt,
+            config.maps.len() == 1 && config.prefix_lists.is_empty(),
+        );
         let is_read = match &config.bgp {
             Some(bgp) => {
                 bgp.asn == 65_001 && !bgp.needs_policy && has_neighbor(bgp) && has_network(bgp)
             }
             None => false,
         };
-        assert!(rt; is_read);
+        holds(&rt, is_read);
     }
     Ok(())
 }
@@ -85,6 +89,6 @@ fn running_configuration(rt: HostRuntime) -> Result<(), Fail> {
 fn running_configuration_cut(rt: HostRuntime) -> Result<(), Fail> {
     let text = format!(in rt.alloc(); "{BEFORE_MAPS}route-map HIGH per")?;
     let result = read(&rt, text.as_str());
-    assert_eq!(rt; result.err(), Some(ReadRefusal::BadValue(28)));
+    holds(&rt, result.err() == Some(ReadRefusal::BadValue(28)));
     Ok(())
 }
