@@ -1,8 +1,14 @@
-//! Tests of the program: whole runs, with words, files and output in memory, and the networks, reports and texts of
-//! refusals of such runs.
+//! Tests of the program beside the tables of `worked_runs`: want of memory, verdicts that no run gives yet, notices,
+//! and the text of each refusal.
 #![tactic(auto)]
 
 #[cfg(test)]
 mod asserting;
 #[cfg(test)]
-mod runs;
+mod folders;
+#[cfg(test)]
+mod memory;
+#[cfg(test)]
+mod reports;
+#[cfg(test)]
+mod texts;

@@ -1,12 +1,10 @@
-//! Tests of routes: sets of failed links, paths of OSPF, what policies make of routes, and which labellings are
-//! stable, on rows worked out by hand.
+//! Tests of routes beside the tables of `worked_runs`: walks through sets of failed links, and which of two routes is
+//! better.
 #![tactic(auto)]
 
-#[cfg(test)]
-mod algebra;
 #[cfg(test)]
 mod asserting;
 #[cfg(test)]
 mod failures;
 #[cfg(test)]
-mod paths;
+mod orders;

@@ -119,39 +119,50 @@ const D_TO_A: Arc = Arc {
     down: true,
 };
 
+const NOWHERE: Arc = Arc {
+    link: 3,
+    down: false,
+};
+
+// What d originates comes to a, and by a to b.
+fn comes_to_both(net: &Net) -> bool
+    requires { length net.now.routers ≡ 3 }
+{
+    let at_d = local_row(net, prefix(), 2, None);
+    let at_a = transfer(net, prefix(), D_TO_A, &at_d);
+    let at_b = transfer(net, prefix(), A_TO_B, &at_a);
+    let of_d = Bits64::EMPTY.with(2);
+    at_d == ORIGINATED
+        && at_a == learned(100, 1, of_d)
+        && at_b == learned(200, 2, of_d.with(0))
+        && passes(net, prefix(), D_TO_A, &at_d)
+        && passes(net, prefix(), A_TO_B, &at_a)
+}
+
 #[test]
 fn transfer_rows(rt: HostRuntime) -> Result<(), Fail> {
     let net = network(rt.alloc())?;
-    let at_d = local_row(&net, prefix(), 2, None);
-    holds(&rt, at_d == ORIGINATED);
-    let at_a = transfer(&net, prefix(), D_TO_A, &at_d);
-    let of_d = Bits64::EMPTY.with(2);
-    holds(&rt, at_a == learned(100, 1, of_d));
-    let at_b = transfer(&net, prefix(), A_TO_B, &at_a);
-    holds(&rt, at_b == learned(200, 2, of_d.with(0)));
-    holds(
-        &rt,
-        passes(&net, prefix(), D_TO_A, &at_d) && passes(&net, prefix(), A_TO_B, &at_a),
-    );
+    holds(&rt, comes_to_both(&net));
     Ok(())
+}
+
+// The way back is open, and brings nothing; nothing comes over a link that is not there.
+fn brings_nothing_back(net: &Net) -> bool
+    requires { length net.now.routers ≡ 3 }
+{
+    let at_d = local_row(net, prefix(), 2, None);
+    let at_a = transfer(net, prefix(), D_TO_A, &at_d);
+    transfer(net, prefix(), A_TO_D, &at_a) == BOTTOM
+        && is_open(net, prefix(), A_TO_D, &at_a)
+        && passes(net, prefix(), A_TO_D, &at_a)
+        && !is_open(net, prefix(), A_TO_D, &BOTTOM)
+        && transfer(net, prefix(), NOWHERE, &at_d) == BOTTOM
 }
 
 #[test]
 fn the_way_back_is_open_and_brings_nothing(rt: HostRuntime) -> Result<(), Fail> {
     let net = network(rt.alloc())?;
-    let at_d = local_row(&net, prefix(), 2, None);
-    let at_a = transfer(&net, prefix(), D_TO_A, &at_d);
-    holds(&rt, transfer(&net, prefix(), A_TO_D, &at_a) == BOTTOM);
-    holds(
-        &rt,
-        is_open(&net, prefix(), A_TO_D, &at_a) && passes(&net, prefix(), A_TO_D, &at_a),
-    );
-    holds(&rt, !is_open(&net, prefix(), A_TO_D, &BOTTOM));
-    let nowhere = Arc {
-        link: 3,
-        down: false,
-    };
-    holds(&rt, transfer(&net, prefix(), nowhere, &at_d) == BOTTOM);
+    holds(&rt, brings_nothing_back(&net));
     Ok(())
 }
 
@@ -160,22 +171,21 @@ pub(super) fn is_in(row: &Row, route: &Route) -> bool {
     route.path.as_slice().iter().all(|&router| router < 64) && contains(row, route)
 }
 
+// Whether what d originates, sends and a takes in is there, and is in the rows; none where it is not there.
+fn is_carried_in_rows(alloc: Global, net: &Net) -> Option<bool>
+    requires { length net.now.routers ≡ 3 }
+{
+    let row = local_row(net, prefix(), 2, None);
+    let at_a = transfer(net, prefix(), D_TO_A, &row);
+    let route = local_route(alloc, net, prefix(), 2, None).ok()??;
+    let sent = export(alloc, net, prefix(), D_TO_A, &route).ok()??;
+    let taken = import(alloc, net, prefix(), D_TO_A, &sent).ok()??;
+    Some(is_in(&row, &route) && is_in(&at_a, &taken))
+}
+
 #[test]
 fn what_is_carried_is_in_the_transfer(rt: HostRuntime) -> Result<(), Fail> {
     let net = network(rt.alloc())?;
-    let alloc = rt.alloc();
-    let row = local_row(&net, prefix(), 2, None);
-    let at_a = transfer(&net, prefix(), D_TO_A, &row);
-    let Some(route) = local_route(alloc, &net, prefix(), 2, None)? else {
-        panic!(rt; "nothing is originated");
-    };
-    holds(&rt, is_in(&row, &route));
-    let Some(sent) = export(alloc, &net, prefix(), D_TO_A, &route)? else {
-        panic!(rt; "nothing is sent");
-    };
-    let Some(taken) = import(alloc, &net, prefix(), D_TO_A, &sent)? else {
-        panic!(rt; "nothing is taken in");
-    };
-    holds(&rt, is_in(&at_a, &taken));
+    holds(&rt, is_carried_in_rows(rt.alloc(), &net) == Some(true));
     Ok(())
 }

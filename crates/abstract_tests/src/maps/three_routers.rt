@@ -2,38 +2,9 @@
 //! 65000:2, community 2 is NO_EXPORT, and community 3 NO_ADVERTISE. List NOT-ONE denies community 0 before it would
 //! permit it.
 
-use net_types::{BundleRefusal, Net, NoMemory};
+use net_types::{BundleRefusal, Net};
 use std::alloc::Global;
 use test_networks::network_of;
-
-// Community lists and maps of routers a and b, but for the map that prepends.
-const POLICIES: &str = "bgp community-list standard ONE seq 5 permit 65000:1
-bgp community-list standard NOT-ONE seq 5 deny 65000:1
-bgp community-list standard NOT-ONE seq 10 permit 65000:1
-bgp community-list standard BOTH seq 5 permit 65000:1 65000:2
-bgp community-list standard EITHER seq 5 permit 65000:1
-bgp community-list standard EITHER seq 10 permit 65000:2
-route-map IF-ONE permit 10
- match community ONE
-route-map UNLESS-ONE deny 10
- match community ONE
-route-map UNLESS-ONE permit 20
-route-map RAISE permit 10
- match community NOT-ONE
- set local-preference 200
-route-map RAISE permit 20
-route-map UNLESS-BOTH deny 10
- match community BOTH
-route-map UNLESS-BOTH permit 20
-route-map IF-EITHER permit 10
- match community EITHER
-route-map ADD-ONE permit 10
- set community 65000:1 additive
-route-map STAMP permit 10
- set community no-export additive
-route-map MED permit 10
- set metric 7
-";
 
 /// Links, by their places in the network. Where not named, they are between routers a and b, and a policy is open.
 pub(super) const PLAIN: u8 = 0;
@@ -83,92 +54,231 @@ pub(super) const B_AND_D: u8 = 14;
 /// No session, and so closed policies at both ends.
 pub(super) const SILENT: u8 = 15;
 
-// The maps at both ends of links 0 to 12: for what goes out, and for what comes in.
-static MAPS: [(&str, &str); 13] = [
-    ("", ""),
-    ("ADD-ONE", "UNLESS-ONE"),
-    ("ADD-ONE", "IF-ONE"),
-    ("", "IF-ONE"),
-    ("", "RAISE"),
-    ("", "LONGER"),
-    ("", "UNLESS-BOTH"),
-    ("", "IF-EITHER"),
-    ("IF-ONE", ""),
-    ("UNLESS-ONE", ""),
-    ("STAMP", ""),
-    ("", "MED"),
-    ("", "STAMP"),
-];
+// Routers a and b have number 1 and 2 in addresses and in their AS, and the maps of the links at both ends.
+const A: &str = "hostname a
+router bgp 65001
+ no bgp ebgp-requires-policy
+bgp community-list standard ONE seq 5 permit 65000:1
+bgp community-list standard NOT-ONE seq 5 deny 65000:1
+bgp community-list standard NOT-ONE seq 10 permit 65000:1
+bgp community-list standard BOTH seq 5 permit 65000:1 65000:2
+bgp community-list standard EITHER seq 5 permit 65000:1
+bgp community-list standard EITHER seq 10 permit 65000:2
+route-map IF-ONE permit 10
+ match community ONE
+route-map UNLESS-ONE deny 10
+ match community ONE
+route-map UNLESS-ONE permit 20
+route-map RAISE permit 10
+ match community NOT-ONE
+ set local-preference 200
+route-map RAISE permit 20
+route-map UNLESS-BOTH deny 10
+ match community BOTH
+route-map UNLESS-BOTH permit 20
+route-map IF-EITHER permit 10
+ match community EITHER
+route-map ADD-ONE permit 10
+ set community 65000:1 additive
+route-map STAMP permit 10
+ set community no-export additive
+route-map MED permit 10
+ set metric 7
+route-map LONGER permit 10
+ set as-path prepend 65001 65001
+interface e0
+ ip address 10.0.0.1/24
+router bgp 65001
+ neighbor 10.0.0.2 remote-as 65002
+interface e1
+ ip address 10.0.1.1/24
+router bgp 65001
+ neighbor 10.0.1.2 remote-as 65002
+ neighbor 10.0.1.2 route-map ADD-ONE out
+ neighbor 10.0.1.2 route-map UNLESS-ONE in
+interface e2
+ ip address 10.0.2.1/24
+router bgp 65001
+ neighbor 10.0.2.2 remote-as 65002
+ neighbor 10.0.2.2 route-map ADD-ONE out
+ neighbor 10.0.2.2 route-map IF-ONE in
+interface e3
+ ip address 10.0.3.1/24
+router bgp 65001
+ neighbor 10.0.3.2 remote-as 65002
+ neighbor 10.0.3.2 route-map IF-ONE in
+interface e4
+ ip address 10.0.4.1/24
+router bgp 65001
+ neighbor 10.0.4.2 remote-as 65002
+ neighbor 10.0.4.2 route-map RAISE in
+interface e5
+ ip address 10.0.5.1/24
+router bgp 65001
+ neighbor 10.0.5.2 remote-as 65002
+ neighbor 10.0.5.2 route-map LONGER in
+interface e6
+ ip address 10.0.6.1/24
+router bgp 65001
+ neighbor 10.0.6.2 remote-as 65002
+ neighbor 10.0.6.2 route-map UNLESS-BOTH in
+interface e7
+ ip address 10.0.7.1/24
+router bgp 65001
+ neighbor 10.0.7.2 remote-as 65002
+ neighbor 10.0.7.2 route-map IF-EITHER in
+interface e8
+ ip address 10.0.8.1/24
+router bgp 65001
+ neighbor 10.0.8.2 remote-as 65002
+ neighbor 10.0.8.2 route-map IF-ONE out
+interface e9
+ ip address 10.0.9.1/24
+router bgp 65001
+ neighbor 10.0.9.2 remote-as 65002
+ neighbor 10.0.9.2 route-map UNLESS-ONE out
+interface e10
+ ip address 10.0.10.1/24
+router bgp 65001
+ neighbor 10.0.10.2 remote-as 65002
+ neighbor 10.0.10.2 route-map STAMP out
+interface e11
+ ip address 10.0.11.1/24
+router bgp 65001
+ neighbor 10.0.11.2 remote-as 65002
+ neighbor 10.0.11.2 route-map MED in
+interface e12
+ ip address 10.0.12.1/24
+router bgp 65001
+ neighbor 10.0.12.2 remote-as 65002
+ neighbor 10.0.12.2 route-map STAMP in
+interface e13
+ ip address 10.0.13.1/24
+router bgp 65001
+ neighbor 10.0.13.3 remote-as 65003
+interface e15
+ ip address 10.0.15.1/24
+";
 
-// The interface of the router of this number on a link: its subnet is 10.0.LINK.0/24.
-fn interface(alloc: Global, link: usize, number: u8) -> Result<String, NoMemory> {
-    Ok(format!(in alloc; "interface e{link}\n ip address 10.0.{link}.{number}/24\n")?)
-}
+const B: &str = "hostname b
+router bgp 65002
+ no bgp ebgp-requires-policy
+bgp community-list standard ONE seq 5 permit 65000:1
+bgp community-list standard NOT-ONE seq 5 deny 65000:1
+bgp community-list standard NOT-ONE seq 10 permit 65000:1
+bgp community-list standard BOTH seq 5 permit 65000:1 65000:2
+bgp community-list standard EITHER seq 5 permit 65000:1
+bgp community-list standard EITHER seq 10 permit 65000:2
+route-map IF-ONE permit 10
+ match community ONE
+route-map UNLESS-ONE deny 10
+ match community ONE
+route-map UNLESS-ONE permit 20
+route-map RAISE permit 10
+ match community NOT-ONE
+ set local-preference 200
+route-map RAISE permit 20
+route-map UNLESS-BOTH deny 10
+ match community BOTH
+route-map UNLESS-BOTH permit 20
+route-map IF-EITHER permit 10
+ match community EITHER
+route-map ADD-ONE permit 10
+ set community 65000:1 additive
+route-map STAMP permit 10
+ set community no-export additive
+route-map MED permit 10
+ set metric 7
+route-map LONGER permit 10
+ set as-path prepend 65002 65002
+interface e0
+ ip address 10.0.0.2/24
+router bgp 65002
+ neighbor 10.0.0.1 remote-as 65001
+interface e1
+ ip address 10.0.1.2/24
+router bgp 65002
+ neighbor 10.0.1.1 remote-as 65001
+ neighbor 10.0.1.1 route-map ADD-ONE out
+ neighbor 10.0.1.1 route-map UNLESS-ONE in
+interface e2
+ ip address 10.0.2.2/24
+router bgp 65002
+ neighbor 10.0.2.1 remote-as 65001
+ neighbor 10.0.2.1 route-map ADD-ONE out
+ neighbor 10.0.2.1 route-map IF-ONE in
+interface e3
+ ip address 10.0.3.2/24
+router bgp 65002
+ neighbor 10.0.3.1 remote-as 65001
+ neighbor 10.0.3.1 route-map IF-ONE in
+interface e4
+ ip address 10.0.4.2/24
+router bgp 65002
+ neighbor 10.0.4.1 remote-as 65001
+ neighbor 10.0.4.1 route-map RAISE in
+interface e5
+ ip address 10.0.5.2/24
+router bgp 65002
+ neighbor 10.0.5.1 remote-as 65001
+ neighbor 10.0.5.1 route-map LONGER in
+interface e6
+ ip address 10.0.6.2/24
+router bgp 65002
+ neighbor 10.0.6.1 remote-as 65001
+ neighbor 10.0.6.1 route-map UNLESS-BOTH in
+interface e7
+ ip address 10.0.7.2/24
+router bgp 65002
+ neighbor 10.0.7.1 remote-as 65001
+ neighbor 10.0.7.1 route-map IF-EITHER in
+interface e8
+ ip address 10.0.8.2/24
+router bgp 65002
+ neighbor 10.0.8.1 remote-as 65001
+ neighbor 10.0.8.1 route-map IF-ONE out
+interface e9
+ ip address 10.0.9.2/24
+router bgp 65002
+ neighbor 10.0.9.1 remote-as 65001
+ neighbor 10.0.9.1 route-map UNLESS-ONE out
+interface e10
+ ip address 10.0.10.2/24
+router bgp 65002
+ neighbor 10.0.10.1 remote-as 65001
+ neighbor 10.0.10.1 route-map STAMP out
+interface e11
+ ip address 10.0.11.2/24
+router bgp 65002
+ neighbor 10.0.11.1 remote-as 65001
+ neighbor 10.0.11.1 route-map MED in
+interface e12
+ ip address 10.0.12.2/24
+router bgp 65002
+ neighbor 10.0.12.1 remote-as 65001
+ neighbor 10.0.12.1 route-map STAMP in
+interface e14
+ ip address 10.0.14.2/24
+router bgp 65002
+ neighbor 10.0.14.3 remote-as 65003
+interface e15
+ ip address 10.0.15.2/24
+";
 
-// The line of a neighbor's map, where there is one.
-fn map_line(
-    alloc: Global,
-    link: usize,
-    other: u8,
-    map: &str,
-    way: &str,
-) -> Result<String, NoMemory> {
-    if map.is_empty() {
-        return Ok(String::new(alloc));
-    }
-    Ok(format!(in alloc; " neighbor 10.0.{link}.{other} route-map {map} {way}\n")?)
-}
-
-// One end of a session: the interface, and the lines of the neighbor, which is the router of the other number.
-fn session(
-    alloc: Global,
-    link: usize,
-    number: u8,
-    other: u8,
-    maps: (&str, &str),
-) -> Result<String, NoMemory> {
-    let interface = interface(alloc, link, number)?;
-    let export = map_line(alloc, link, other, maps.0, "out")?;
-    let import = map_line(alloc, link, other, maps.1, "in")?;
-    Ok(format!(in alloc;
-        "{interface}router bgp 6500{number}\n neighbor 10.0.{link}.{other} remote-as 6500{other}\n{export}{import}"
-    )?)
-}
-
-// A router's ends of links 0 to 12.
-fn sessions(alloc: Global, number: u8, other: u8) -> Result<String, NoMemory> {
-    let mut text = String::new(alloc);
-    for (link, maps) in MAPS.iter().enumerate() {
-        let lines = session(alloc, link, number, other, *maps)?;
-        text.push_str(lines.as_str())?;
-    }
-    Ok(text)
-}
-
-// Router a or b, which has number 1 or 2 in addresses and in its AS: its ends of links 0 to 12, to d over this link, and of the link without a session.
-fn router(
-    alloc: Global,
-    host: &str,
-    number: u8,
-    other: u8,
-    to_d: usize,
-) -> Result<String, NoMemory> {
-    let sessions = sessions(alloc, number, other)?;
-    let to_d = session(alloc, to_d, number, 3, ("", ""))?;
-    let silent = interface(alloc, 15, number)?;
-    Ok(format!(in alloc;
-        "hostname {host}\nrouter bgp 6500{number}\n no bgp ebgp-requires-policy\n{POLICIES}route-map LONGER permit 10\n set as-path prepend 6500{number} 6500{number}\n{sessions}{to_d}{silent}"
-    )?)
-}
+const D: &str = "hostname d
+router bgp 65003
+ no bgp ebgp-requires-policy
+interface e13
+ ip address 10.0.13.3/24
+router bgp 65003
+ neighbor 10.0.13.1 remote-as 65001
+interface e14
+ ip address 10.0.14.3/24
+router bgp 65003
+ neighbor 10.0.14.2 remote-as 65002
+";
 
 /// Routers a, b and d are 0, 1 and 2.
 pub(super) fn network(alloc: Global) -> Result<Net, BundleRefusal> {
-    let a = router(alloc, "a", 1, 2, 13)?;
-    let b = router(alloc, "b", 2, 1, 14)?;
-    let to_a = session(alloc, 13, 3, 1, ("", ""))?;
-    let to_b = session(alloc, 14, 3, 2, ("", ""))?;
-    let d = format!(in alloc;
-        "hostname d\nrouter bgp 65003\n no bgp ebgp-requires-policy\n{to_a}{to_b}"
-    )?;
-    network_of(alloc, &[a.as_str(), b.as_str(), d.as_str()], 3)
+    network_of(alloc, &[A, B, D], 3)
 }

@@ -1,7 +1,0 @@
-//! Tests of whole bundles: their networks as texts, worked out by hand, their refusals, and the limits.
-#![tactic(auto)]
-
-#[cfg(test)]
-mod asserting;
-#[cfg(test)]
-mod bundles;
