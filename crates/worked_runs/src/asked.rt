@@ -1,8 +1,9 @@
 //! What a case asks, and how it ends.
 
-use crate::cases::{Case, CaseFile};
+use crate::cases::{Asked, Case};
 use crate::described::describe;
-use crate::transfers::transferred;
+use crate::ending::{Ending, ended_with, files_in};
+use crate::transfers::route_ending;
 use bundle_reader::read_bundle;
 use commands::{bundle_text, run};
 use frr_reader::read_router;
@@ -10,46 +11,17 @@ use net_types::{BundleRefusal, List, NoMemory, SourceFile, Text};
 use outside::{MemShelf, MemSink};
 use std::alloc::Global;
 
-/// The status and the text that a case ends with. A file or a network that is refused ends with 2.
-#[derive(Drop)]
-pub struct Ended {
-    pub status: u8,
-    pub text: Vec<u8>,
-}
-
-/// An ending with this text.
-pub fn ended_with(alloc: Global, status: u8, text: &str) -> Result<Ended, NoMemory> {
-    Ok(Ended {
-        status,
-        text: Vec::from_slice(alloc, text.as_bytes())?,
-    })
-}
-
-fn refused(alloc: Global, files: &[SourceFile], refusal: BundleRefusal) -> Result<Ended, NoMemory> {
+fn refused(
+    alloc: Global,
+    files: &[SourceFile],
+    refusal: BundleRefusal,
+) -> Result<Ending, NoMemory> {
     let mut text = bundle_text(alloc, files, refusal)?;
     text.push_str("\n")?;
     ended_with(alloc, 2, text.as_str())
 }
 
-/// The files whose paths begin so.
-pub fn files_in(
-    alloc: Global,
-    files: &[CaseFile],
-    folder: &str,
-) -> Result<Vec<SourceFile>, NoMemory> {
-    let mut all = Vec::new(alloc);
-    for file in files {
-        if let Some(name) = file.path.as_str().strip_prefix(folder) {
-            all.push(SourceFile {
-                name: Text::from_str(alloc, name)?,
-                text: List::from_slice(alloc, file.text.as_bytes())?,
-            })?;
-        }
-    }
-    Ok(all)
-}
-
-// The words of a run.
+// The words of a run, between single blanks.
 fn words_of(alloc: Global, words: &str) -> Result<Vec<Text>, NoMemory> {
     let mut all = Vec::new(alloc);
     if words.is_empty() {
@@ -62,21 +34,23 @@ fn words_of(alloc: Global, words: &str) -> Result<Vec<Text>, NoMemory> {
     Ok(all)
 }
 
-// Whether the first file is a configuration.
-fn read(alloc: Global, case: &Case) -> Result<Ended, NoMemory> {
+// How a case ends that asks whether its first file is a configuration, or what it says: with no text, or with that, or
+// with the refusal.
+fn read_ending(alloc: Global, case: &Case, told: bool) -> Result<Ending, NoMemory> {
     let files = files_in(alloc, case.files.as_slice(), "")?;
     let bytes = match files.first() {
         Some(file) => file.text.as_slice(),
         None => return ended_with(alloc, 2, "no file\n"),
     };
     match read_router(alloc, bytes) {
+        Ok(config) if told => { ended_with(alloc, 0, format!(in alloc; "{config:?}\n")?.as_str()) }
         Ok(_config) => ended_with(alloc, 0, ""),
         Err(refusal) => refused(alloc, files.as_slice(), BundleRefusal::InFile(0, refusal)),
     }
 }
 
-// The network of a folder.
-fn network(alloc: Global, case: &Case, folder: &str) -> Result<Ended, NoMemory> {
+// How a case ends that asks for the network of the files whose paths begin so.
+fn network_ending(alloc: Global, case: &Case, folder: &str) -> Result<Ending, NoMemory> {
     let files = files_in(alloc, case.files.as_slice(), folder)?;
     match read_bundle(alloc, files.as_slice()) {
         Ok(net) => ended_with(alloc, 0, describe(alloc, &net)?.as_str()),
@@ -84,8 +58,8 @@ fn network(alloc: Global, case: &Case, folder: &str) -> Result<Ended, NoMemory> 
     }
 }
 
-// A run of the program over the files of the case.
-fn run_over(alloc: Global, case: &Case, words: &str) -> Result<Ended, NoMemory> {
+// How a run of the program over the files of the case ends.
+fn run_ending(alloc: Global, case: &Case, words: &str) -> Result<Ending, NoMemory> {
     let content = List::from_vec(files_in(alloc, case.files.as_slice(), "")?);
     if !MemShelf::are_distinct(&content) {
         return ended_with(alloc, 2, "two files of one path\n");
@@ -94,23 +68,28 @@ fn run_over(alloc: Global, case: &Case, words: &str) -> Result<Ended, NoMemory> 
     let mut out = MemSink::new(alloc, case.room, case.failing_writes.as_slice())?;
     let words = words_of(alloc, words)?;
     let status = run(alloc, words.as_slice(), &mut shelf, &mut out).code();
-    Ok(Ended {
+    Ok(Ending {
         status,
         text: Vec::from_slice(alloc, out.bytes())?,
     })
 }
 
-/// How the case ends, if it is to be run.
-pub fn ending_of(alloc: Global, case: &Case) -> Result<Option<Ended>, NoMemory> {
-    let Some(words) = &case.words else {
-        return Ok(None);
-    };
-    let words = words.as_str();
-    let ended = match words.split_once(' ') {
-        Some(("network", folder)) => network(alloc, case, folder)?,
-        Some(("route", asked)) => transferred(alloc, case, asked)?,
-        None if words == "read" => read(alloc, case)?,
-        _ => run_over(alloc, case, words)?,
-    };
-    Ok(Some(ended))
+// How a question ends; one that is not known is said to be none.
+fn question_ending(alloc: Global, case: &Case, words: &str) -> Result<Ending, NoMemory> {
+    match words.split_once(' ') {
+        None if words == "read" => read_ending(alloc, case, false),
+        None if words == "config" => read_ending(alloc, case, true),
+        Some(("network", folder)) => network_ending(alloc, case, folder),
+        Some(("route", asked)) => route_ending(alloc, case, asked),
+        _ => ended_with(alloc, 2, "no question\n"),
+    }
+}
+
+/// How the case ends, if it asks something.
+pub fn ending_of(alloc: Global, case: &Case) -> Result<Option<Ending>, NoMemory> {
+    Ok(match &case.asked {
+        Asked::Nothing => None,
+        Asked::Run(words) => Some(run_ending(alloc, case, words.as_str())?),
+        Asked::Question(words) => Some(question_ending(alloc, case, words.as_str())?),
+    })
 }

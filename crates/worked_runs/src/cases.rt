@@ -1,7 +1,7 @@
 //! A case of a table.
 
-use crate::lines::{Line, line_of};
-use net_types::{NoMemory, read_number};
+use crate::lines::{Line, Numbered, Unseen, line_of};
+use net_types::NoMemory;
 use std::alloc::Global;
 
 /// A file of a case.
@@ -9,6 +9,17 @@ use std::alloc::Global;
 pub struct CaseFile {
     pub path: String,
     pub text: String,
+}
+
+/// What is asked of a case.
+#[derive(Drop)]
+pub enum Asked {
+    /// Nothing: it is there for its files.
+    Nothing,
+    /// A run of the program with these words.
+    Run(String),
+    /// A question of this program.
+    Question(String),
 }
 
 // Which text the next line belongs to.
@@ -19,24 +30,25 @@ enum Place {
     Answer,
 }
 
-/// A run: its name, its words, if it is to be run, and its files; the calls that fail, and how much the output takes;
-/// the status and the text that it has to end with.
+/// A case: what is asked of which files, and how it has to end.
 #[derive(Drop)]
 pub struct Case {
     pub name: String,
-    pub words: Option<String>,
+    pub asked: Asked,
     pub files: Vec<CaseFile>,
+    /// The calls of the files that fail, counted from 1.
     pub failing: Vec<u64>,
+    /// The calls of the output that fail, counted from 1.
     pub failing_writes: Vec<u64>,
+    /// How many bytes the output takes.
     pub room: u64,
-    pub wanted: u64,
+    /// The status that it has to end with.
+    pub wanted: Option<u64>,
+    /// The text that it has to end with.
     pub answer: String,
+    /// The first line that is none of a table's, or stands where it may not.
+    pub misread: Option<String>,
     place: Place,
-}
-
-/// The number that is written, 0 for what is none.
-pub fn number_of(text: &str) -> u64 {
-    read_number(text.as_bytes(), 0, 1_000_000).unwrap_or(0)
 }
 
 fn push_line(text: &mut String, line: &str) -> Result<(), NoMemory> {
@@ -46,19 +58,28 @@ fn push_line(text: &mut String, line: &str) -> Result<(), NoMemory> {
 }
 
 impl Case {
-    /// A case without words and files.
+    /// A case without files of which nothing is asked.
     pub fn new(alloc: Global, name: &str) -> Result<Case, NoMemory> {
         Ok(Case {
             name: String::from_str(alloc, name)?,
-            words: None,
+            asked: Asked::Nothing,
             files: Vec::new(alloc),
             failing: Vec::new(alloc),
             failing_writes: Vec::new(alloc),
             room: 1_000_000,
-            wanted: 0,
+            wanted: None,
             answer: String::new(alloc),
+            misread: None,
             place: Place::Nowhere,
         })
+    }
+
+    /// Keeps the line as one that is misread, if it is the first.
+    pub fn misread(&mut self, alloc: Global, line: &str) -> Result<(), NoMemory> {
+        if self.misread.is_none() {
+            self.misread = Some(String::from_str(alloc, line)?);
+        }
+        Ok(())
     }
 
     // Opens the file of this path, a new one where there is none.
@@ -77,10 +98,11 @@ impl Case {
         Ok(())
     }
 
-    // Puts a line behind the open text; it is a comment where there is none.
-    fn add_line(&mut self, line: &str) -> Result<(), NoMemory> {
+    // Puts a line behind the open text. Where none is open, it has to be a comment.
+    fn add_line(&mut self, alloc: Global, line: &str) -> Result<(), NoMemory> {
         match self.place {
-            Place::Nowhere => Ok(()),
+            Place::Nowhere if line.is_empty() || line.starts_with('#') => Ok(()),
+            Place::Nowhere => self.misread(alloc, line),
             Place::File(place) => match self.files.get_mut(place) {
                 Some(file) => push_line(&mut file.text, line),
                 None => Ok(()),
@@ -89,14 +111,29 @@ impl Case {
         }
     }
 
-    // Takes a line of the open text. An empty one ends what is written.
-    fn take_text(&mut self, line: &str) -> Result<(), NoMemory> {
+    // Takes a line of text. An empty one ends an answer.
+    fn take_text(&mut self, alloc: Global, line: &str) -> Result<(), NoMemory> {
         match self.place {
             Place::Answer if line.is_empty() => {
                 self.place = Place::Nowhere;
                 Ok(())
             }
-            _ => self.add_line(line),
+            _ => self.add_line(alloc, line),
+        }
+    }
+
+    // Takes the last byte of the open text away, which is the line feed of its last line, and closes it.
+    fn end_line(&mut self) {
+        let last = match self.place {
+            Place::Nowhere => None,
+            Place::File(place) => match self.files.get_mut(place) {
+                Some(file) => file.text.pop(),
+                None => None,
+            },
+            Place::Answer => self.answer.pop(),
+        };
+        if last.is_some() {
+            self.place = Place::Nowhere;
         }
     }
 
@@ -105,52 +142,89 @@ impl Case {
         let number = format!(in alloc; "{number}")?;
         let lines = lines.replace(alloc, '%', number.as_str())?;
         for line in lines.as_str().split('|') {
-            self.add_line(line)?;
+            self.add_line(alloc, line)?;
         }
         Ok(())
     }
 
-    // Puts the lines of as many numbers behind the open text.
-    fn add_lines(&mut self, alloc: Global, asked: &str) -> Result<(), NoMemory> {
-        let Some((first, rest)) = asked.split_once(' ') else {
-            return Ok(());
-        };
-        let Some((count, lines)) = rest.split_once(' ') else {
-            return Ok(());
-        };
-        let first = number_of(first);
-        for number in 0..number_of(count) {
-            self.add_numbered(alloc, lines, first.saturating_add(number))?;
+    // Puts the lines of each number behind the open text.
+    fn add_lines(&mut self, alloc: Global, asked: Numbered<'_>) -> Result<(), NoMemory> {
+        for number in 0..asked.count {
+            self.add_numbered(alloc, asked.lines, asked.first.saturating_add(number))?;
         }
         Ok(())
     }
 
-    /// Takes the files of another case.
+    // Puts a line with a character that nobody would see behind the open text.
+    fn add_unseen(&mut self, alloc: Global, asked: Unseen<'_>) -> Result<(), NoMemory> {
+        let mut character = String::new(alloc);
+        character.push(char::from(asked.character))?;
+        let line = asked.line.replace(alloc, '%', character.as_str())?;
+        self.add_line(alloc, line.as_str())
+    }
+
+    // Puts a text behind the one of the open file.
+    fn add_text(&mut self, text: &str) -> Result<(), NoMemory> {
+        if let Place::File(place) = self.place
+            && let Some(file) = self.files.get_mut(place)
+        {
+            file.text.push_str(text)?;
+        }
+        Ok(())
+    }
+
+    /// Takes the files of another case, and opens none.
     pub fn add_files(&mut self, alloc: Global, files: &[CaseFile]) -> Result<(), NoMemory> {
         for file in files {
-            self.files.push(CaseFile {
-                path: String::from_str(alloc, file.path.as_str())?,
-                text: String::from_str(alloc, file.text.as_str())?,
-            })?;
+            self.open_file(alloc, file.path.as_str())?;
+            self.add_text(file.text.as_str())?;
         }
+        self.place = Place::Nowhere;
         Ok(())
     }
 
-    /// Takes a line of its own.
+    // Sets what is asked, once.
+    fn ask(&mut self, alloc: Global, asked: Asked, line: &str) -> Result<(), NoMemory> {
+        match &self.asked {
+            Asked::Nothing => {
+                self.asked = asked;
+                Ok(())
+            }
+            _ => self.misread(alloc, line),
+        }
+    }
+
+    // Sets the wanted status, once, of a case that asks something.
+    fn want(&mut self, alloc: Global, status: Option<u64>, line: &str) -> Result<(), NoMemory> {
+        self.place = Place::Answer;
+        if status.is_none() || self.wanted.is_some() || matches!(&self.asked, Asked::Nothing) {
+            return self.misread(alloc, line);
+        }
+        self.wanted = status;
+        Ok(())
+    }
+
+    /// Takes a line that is no name and no `+`, in its place.
     pub fn take(&mut self, alloc: Global, line: &str) -> Result<(), NoMemory> {
         match line_of(line) {
-            Line::Words(words) => self.words = Some(String::from_str(alloc, words)?),
-            Line::File(path) => self.open_file(alloc, path)?,
-            Line::Wanted(status) => {
-                self.wanted = number_of(status);
-                self.place = Place::Answer;
+            Line::Words(words) => {
+                let words = String::from_str(alloc, words)?;
+                self.ask(alloc, Asked::Run(words), line)?;
             }
-            Line::Lines(asked) => self.add_lines(alloc, asked)?,
-            Line::Read(call) => self.failing.push(number_of(call))?,
-            Line::Write(call) => self.failing_writes.push(number_of(call))?,
-            Line::Room(bytes) => self.room = number_of(bytes),
-            Line::Text => self.take_text(line)?,
-            Line::Name(_) | Line::Like(_) => {}
+            Line::Question(words) => {
+                let words = String::from_str(alloc, words)?;
+                self.ask(alloc, Asked::Question(words), line)?;
+            }
+            Line::File(path) => self.open_file(alloc, path)?,
+            Line::Wanted(status) => self.want(alloc, status, line)?,
+            Line::Lines(Some(asked)) => self.add_lines(alloc, asked)?,
+            Line::Char(Some(asked)) => self.add_unseen(alloc, asked)?,
+            Line::Unended => self.end_line(),
+            Line::Read(Some(call)) => self.failing.push(call)?,
+            Line::Write(Some(call)) => self.failing_writes.push(call)?,
+            Line::Room(Some(bytes)) => self.room = bytes,
+            Line::Text => self.take_text(alloc, line)?,
+            _ => self.misread(alloc, line)?,
         }
         Ok(())
     }

@@ -1,7 +1,8 @@
-//! What routes become, and how far routers are, in a network with the labels of its routers.
+//! What routes become, and how far routers are from a prefix, in a network with the labels of its routers.
 
-use crate::asked::{Ended, ended_with, files_in};
-use crate::cases::{Case, number_of};
+use crate::cases::Case;
+use crate::ending::{Ending, ended_with, files_in};
+use crate::lines::number_of;
 use bundle_reader::read_bundle;
 use concrete_algebra::{export, import, local_route, run_map};
 use label_file::{Labels, read_labels};
@@ -9,27 +10,50 @@ use net_types::{Arc, Net, NoMemory, Policy, Route};
 use ospf_paths::{distances, is_next_hop, is_tight};
 use std::alloc::Global;
 
-/// A network, and what its label file says.
+// A network, and what its label file says.
 #[derive(Drop)]
 struct Labelling {
     net: Net,
     labels: Labels,
 }
 
-/// The network of the files in `net/` with the labels of the file `labels`, where both are read.
-fn labelled(alloc: Global, case: &Case) -> Result<Option<Labelling>, NoMemory> {
-    let files = files_in(alloc, case.files.as_slice(), "net/")?;
-    let Ok(net) = read_bundle(alloc, files.as_slice()) else {
-        return Ok(None);
-    };
-    let file = case
-        .files
-        .iter()
-        .find(|file| file.path.as_str() == "labels");
-    let text = file.map_or("", |file| file.text.as_str());
-    match read_labels(alloc, &net, text.as_bytes()) {
-        Ok(labels) => Ok(Some(Labelling { net, labels })),
-        Err(_refusal) => Ok(None),
+// What is asked of a labelling.
+#[derive(Clone, Copy)]
+enum Question {
+    /// What is sent over an arc of the label of the router that it comes from.
+    Export(Arc),
+    /// What is taken in over an arc of that label, as if it had been sent.
+    Import(Arc),
+    /// What the first map of the first router gives of its label.
+    Map,
+    /// What the first router originates, where OSPF has a way of this length, or none.
+    Origin(Option<u64>),
+    /// The failed links, and each router's label.
+    Labels,
+    /// The distance of each router, and which arcs are tight or go to next hops.
+    Paths,
+}
+
+fn arc_of(text: &str) -> Option<Arc> {
+    let (link, way) = text.split_once(' ')?;
+    let link = u8::try_from(number_of(link)?).ok()?;
+    match way {
+        "up" => Some(Arc { link, down: false }),
+        "down" => Some(Arc { link, down: true }),
+        _ => None,
+    }
+}
+
+fn question_of(words: &str) -> Option<Question> {
+    match words.split_once(' ') {
+        None if words == "map" => Some(Question::Map),
+        None if words == "origin" => Some(Question::Origin(None)),
+        None if words == "labels" => Some(Question::Labels),
+        None if words == "paths" => Some(Question::Paths),
+        Some(("origin", distance)) => Some(Question::Origin(Some(number_of(distance)?))),
+        Some(("export", arc)) => Some(Question::Export(arc_of(arc)?)),
+        Some(("import", arc)) => Some(Question::Import(arc_of(arc)?)),
+        _ => None,
     }
 }
 
@@ -60,6 +84,11 @@ fn route_text(alloc: Global, route: &Option<Route>) -> Result<String, NoMemory> 
     )?)
 }
 
+// That a router whose label is asked for has none.
+fn no_label(alloc: Global) -> Result<String, NoMemory> {
+    Ok(String::from_str(alloc, "no label\n")?)
+}
+
 impl Labelling {
     // The label of the router of this number.
     fn label(&self, router: u8) -> Option<&Route> {
@@ -70,45 +99,61 @@ impl Labelling {
             .as_ref()
     }
 
-    // The arc over a link from its one end or from the other, and the label of the router that it comes from.
-    fn arc(&self, link: u8, down: bool) -> Option<(Arc, &Route)> {
-        let ends = self.net.links().get(usize::from(link))?;
-        let sender = if down { ends.high } else { ends.low };
-        Some((Arc { link, down }, self.label(sender.router)?))
+    // The label of the router that an arc comes from.
+    fn label_of_sender(&self, arc: Arc) -> Option<&Route> {
+        let ends = self.net.links().get(usize::from(arc.link))?;
+        self.label(if arc.down {
+            ends.high.router
+        } else {
+            ends.low.router
+        })
     }
 
-    // What the policies of both ends make of the sender's label.
-    fn carried(&self, alloc: Global, link: u8, down: bool, sent: bool) -> Result<String, NoMemory> {
-        let (net, prefix) = (&self.net, self.labels.prefix);
-        let given = match self.arc(link, down) {
-            Some((arc, route)) if sent => export(alloc, net, prefix, arc, route)?,
-            Some((arc, route)) => import(alloc, net, prefix, arc, route)?,
-            None => None,
-        };
-        route_text(alloc, &given)
+    fn exported(&self, alloc: Global, arc: Arc) -> Result<String, NoMemory> {
+        match self.label_of_sender(arc) {
+            Some(route) => {
+                let given = export(alloc, &self.net, self.labels.prefix, arc, route)?;
+                route_text(alloc, &given)
+            }
+            None => no_label(alloc),
+        }
     }
 
-    // What the first map of the first router makes of its label.
+    fn imported(&self, alloc: Global, arc: Arc) -> Result<String, NoMemory> {
+        match self.label_of_sender(arc) {
+            Some(route) => {
+                let given = import(alloc, &self.net, self.labels.prefix, arc, route)?;
+                route_text(alloc, &given)
+            }
+            None => no_label(alloc),
+        }
+    }
+
     fn mapped(&self, alloc: Global) -> Result<String, NoMemory> {
-        let given = match self.label(0) {
-            Some(route) => run_map(
-                alloc,
-                &self.net,
-                0,
-                Policy::Map(0),
-                self.labels.prefix,
-                route,
-            )?,
-            None => None,
-        };
-        route_text(alloc, &given)
+        let prefix = self.labels.prefix;
+        match self.label(0) {
+            Some(route) => {
+                let given = run_map(alloc, &self.net, 0, Policy::Map(0), prefix, route)?;
+                route_text(alloc, &given)
+            }
+            None => no_label(alloc),
+        }
     }
 
-    // What the first router originates, where OSPF has a way of this length, or none.
     fn originated(&self, alloc: Global, distance: Option<u64>) -> Result<String, NoMemory> {
+        // `local_route` asks for a distance below 2^32.
         let distance = distance.filter(|distance| *distance < 4_294_967_296);
         let given = local_route(alloc, &self.net, self.labels.prefix, 0, distance)?;
         route_text(alloc, &given)
+    }
+
+    fn told(&self, alloc: Global) -> Result<String, NoMemory> {
+        let failed = self.labels.failed.as_slice();
+        let mut text = format!(in alloc; "down {failed:?}\n")?;
+        for label in self.labels.labels.as_slice() {
+            text.push_str(route_text(alloc, label)?.as_str())?;
+        }
+        Ok(text)
     }
 
     // What is to be said of an arc: that it goes to a next hop, or that it is tight alone.
@@ -126,43 +171,65 @@ impl Labelling {
         Ok(format!(in alloc; "arc {link} {way} is {said}\n")?)
     }
 
-    // The distance of each router, and which arcs are tight; links of numbers past the last one are asked too.
+    // Puts what is to be said of each arc behind the text, of links past the last one too.
+    fn push_arcs(
+        &self,
+        alloc: Global,
+        text: &mut String,
+        found: &[Option<u64>],
+    ) -> Result<(), NoMemory> {
+        for link in 0..64 {
+            let up = self.arc_text(alloc, found, Arc { link, down: false })?;
+            text.push_str(up.as_str())?;
+            let down = self.arc_text(alloc, found, Arc { link, down: true })?;
+            text.push_str(down.as_str())?;
+        }
+        Ok(())
+    }
+
     fn paths(&self, alloc: Global) -> Result<String, NoMemory> {
         let found = distances(alloc, &self.net, self.labels.prefix, self.labels.failed)?;
         let mut text = String::new(alloc);
         for distance in found.as_slice() {
             text.push_str(format!(in alloc; "distance {distance:?}\n")?.as_str())?;
         }
-        for link in 0..64 {
-            for down in [false, true] {
-                let arc = Arc { link, down };
-                let line = self.arc_text(alloc, found.as_slice(), arc)?;
-                text.push_str(line.as_str())?;
-            }
-        }
+        self.push_arcs(alloc, &mut text, found.as_slice())?;
         Ok(text)
     }
 
-    // What the words ask.
-    fn answer(&self, alloc: Global, words: &str) -> Result<String, NoMemory> {
-        match words.split_once(' ') {
-            None if words == "map" => self.mapped(alloc),
-            None if words == "origin" => self.originated(alloc, None),
-            None => self.paths(alloc),
-            Some(("origin", distance)) => self.originated(alloc, Some(number_of(distance))),
-            Some((what, arc)) => {
-                let (link, way) = arc.split_once(' ').unwrap_or((arc, ""));
-                let link = number_of(link).min(255) as u8;
-                self.carried(alloc, link, way == "down", what == "export")
-            }
+    fn answer(&self, alloc: Global, question: Question) -> Result<String, NoMemory> {
+        match question {
+            Question::Export(arc) => self.exported(alloc, arc),
+            Question::Import(arc) => self.imported(alloc, arc),
+            Question::Map => self.mapped(alloc),
+            Question::Origin(distance) => self.originated(alloc, distance),
+            Question::Labels => self.told(alloc),
+            Question::Paths => self.paths(alloc),
         }
     }
 }
 
-/// How a case ends that asks what routes become.
-pub fn transferred(alloc: Global, case: &Case, words: &str) -> Result<Ended, NoMemory> {
-    match labelled(alloc, case)? {
-        Some(labelled) => ended_with(alloc, 0, labelled.answer(alloc, words)?.as_str()),
-        None => ended_with(alloc, 2, "no network with labels\n"),
-    }
+// The text of the file of the labels, without a byte where there is none.
+fn label_text(case: &Case) -> &str {
+    let file = case
+        .files
+        .iter()
+        .find(|file| file.path.as_str() == "labels");
+    file.map_or("", |file| file.text.as_str())
+}
+
+/// How a case ends that asks what becomes of the labels of the file `labels`, in the network of the files in `net/`.
+pub fn route_ending(alloc: Global, case: &Case, words: &str) -> Result<Ending, NoMemory> {
+    let Some(question) = question_of(words) else {
+        return ended_with(alloc, 2, "no question\n");
+    };
+    let files = files_in(alloc, case.files.as_slice(), "net/")?;
+    let Ok(net) = read_bundle(alloc, files.as_slice()) else {
+        return ended_with(alloc, 2, "no network\n");
+    };
+    let Ok(labels) = read_labels(alloc, &net, label_text(case).as_bytes()) else {
+        return ended_with(alloc, 2, "no labels\n");
+    };
+    let labelling = Labelling { net, labels };
+    ended_with(alloc, 0, labelling.answer(alloc, question)?.as_str())
 }

@@ -2,11 +2,11 @@
 
 use crate::asserting::{holds, holds_at};
 use crate::folders::{FIRST, SECOND, THIRD};
+use crate::networks::network_of;
 use net_types::{FailSet, List, Net, NoMemory, Prefix, Text};
 use property_book::{Broken, Kind, Outcome, Property, Verdict};
 use report_text::{Side, report};
 use std::alloc::Global;
-use test_networks::network_of;
 
 // A router with a neighbor that nobody is.
 const ALONE: &str =

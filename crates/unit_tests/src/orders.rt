@@ -1,11 +1,11 @@
 //! Which of two routes is better, on every pair of twelve.
 
 use crate::asserting::holds;
+use crate::networks::network_of;
 use concrete_algebra::better;
 use net_types::{Arc, Bits64, List, Net, NoMemory, Origin, Route, Source};
 use std::alloc::Global;
 use std::test::Fail;
-use test_networks::network_of;
 
 // Routers a, b and c, and a link between each two: 0 between a and b, 1 between a and c, 2 between b and c.
 const A: &str =

@@ -1,9 +1,4 @@
-//! Networks of small configurations, for the tests of several crates.
-//!
-//! Decides: nothing of its own.
-//! Stands on: `bundle_reader`, which reads them.
-//! Promises: as many routers as are asked for, or a refusal.
-#![tactic(auto)]
+//! Networks of small configurations.
 
 ghost use Rattle.std.specs.Prelude.{◌≡◌, IfOk, length};
 

@@ -3,13 +3,13 @@
 ghost use Rattle.std.specs.Prelude.{◌≡◌, IfOk, length};
 
 use crate::asserting::holds;
+use crate::networks::network_of;
 use abstract_maps::{is_open, local_row, passes, transfer};
 use abstract_route::{BOTTOM, Range, Row, contains};
 use concrete_algebra::{export, import, local_route};
 use net_types::{Arc, Bits64, BundleRefusal, Net, Prefix, Route};
 use std::alloc::Global;
 use std::test::Fail;
-use test_networks::network_of;
 
 // The prefix 10.9.0.0/24.
 fn prefix() -> Prefix {

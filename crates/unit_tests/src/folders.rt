@@ -1,8 +1,10 @@
 //! Three routers in a line.
 
+/// The first router.
 pub const FIRST: &str =
     "hostname r1\ninterface eth0\n ip address 10.0.0.1/30\n ip ospf area 0\nrouter ospf\n";
 
+/// The one between.
 pub const SECOND: &str =
     "hostname r2\ninterface eth0\n ip address 10.0.0.2/30\n ip ospf area 0\ninterface eth1\n ip address 10.0.1.1/30\n ip ospf area 0\nrouter ospf\n";
 

@@ -1,6 +1,6 @@
 use Rattle.std.proofs.Common.{All}
 use Rattle.net_types.specs.ConfigFacts.{IsConfig}
-use Rattle.reader_tests.proofs.bundles.configs.Given as goal
+use Rattle.unit_tests.proofs.bundles.configs.Given as goal
 
 abbrev pub invariant-loop-number : goal.invariant-loop-number
 invariant-loop-number l = All IsConfig l.all.items

@@ -3,9 +3,9 @@
 
 ghost use Rattle.std.specs.Prelude.{◌≡◌, IfOk, length};
 
+use crate::networks::network_of;
 use net_types::{BundleRefusal, Net, NoMemory};
 use std::alloc::Global;
-use test_networks::network_of;
 
 const LISTS: &str = "hostname a
 ip prefix-list OURS seq 5 permit 10.9.0.0/24

@@ -2,9 +2,9 @@
 //! 65000:2, community 2 is NO_EXPORT, and community 3 NO_ADVERTISE. List NOT-ONE denies community 0 before it would
 //! permit it.
 
+use crate::networks::network_of;
 use net_types::{BundleRefusal, Net};
 use std::alloc::Global;
-use test_networks::network_of;
 
 /// Links, by their places in the network. Where not named, they are between routers a and b, and a policy is open.
 pub(super) const PLAIN: u8 = 0;

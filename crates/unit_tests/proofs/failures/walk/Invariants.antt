@@ -1,6 +1,6 @@
 use Rattle.std.proofs.Common.{◌≤◌, IfSome}
 use Rattle.failure_sets.specs.SetOrder.{IsPermitted}
-use Rattle.concrete_tests.proofs.failures.walk.Given as goal
+use Rattle.unit_tests.proofs.failures.walk.Given as goal
 
 abbrev pub invariant-loop-wanted : goal.invariant-loop-wanted
 invariant-loop-wanted g l = record {
