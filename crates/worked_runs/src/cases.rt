@@ -33,8 +33,11 @@ enum Place {
 /// A case: what is asked of which files, and how it has to end.
 #[derive(Drop)]
 pub struct Case {
+    /// Its name, which no other case of the table has.
     pub name: String,
+    /// A run, or a question.
     pub asked: Asked,
+    /// Its files, no two of one path.
     pub files: Vec<CaseFile>,
     /// The calls of the files that fail, counted from 1.
     pub failing: Vec<u64>,
@@ -122,8 +125,9 @@ impl Case {
         }
     }
 
-    // Takes the last byte of the open text away, which is the line feed of its last line, and closes it.
-    fn end_line(&mut self) {
+    // Takes the last byte of the open text away, which is the line feed of its last line, and closes it. Where there is
+    // none, the line is misread.
+    fn end_line(&mut self, alloc: Global, line: &str) -> Result<(), NoMemory> {
         let last = match self.place {
             Place::Nowhere => None,
             Place::File(place) => match self.files.get_mut(place) {
@@ -132,8 +136,10 @@ impl Case {
             },
             Place::Answer => self.answer.pop(),
         };
-        if last.is_some() {
-            self.place = Place::Nowhere;
+        self.place = Place::Nowhere;
+        match last {
+            Some(_) => Ok(()),
+            None => self.misread(alloc, line),
         }
     }
 
@@ -219,7 +225,7 @@ impl Case {
             Line::Wanted(status) => self.want(alloc, status, line)?,
             Line::Lines(Some(asked)) => self.add_lines(alloc, asked)?,
             Line::Char(Some(asked)) => self.add_unseen(alloc, asked)?,
-            Line::Unended => self.end_line(),
+            Line::Unended => self.end_line(alloc, line)?,
             Line::Read(Some(call)) => self.failing.push(call)?,
             Line::Write(Some(call)) => self.failing_writes.push(call)?,
             Line::Room(Some(bytes)) => self.room = bytes,

@@ -1,7 +1,8 @@
 //! Networks as texts.
 
 use net_types::{
-    End, Net, NetMapEntry, NetSetCommunity, NoMemory, Router, address_text, prefix_text,
+    End, Net, NetCommunityEntry, NetMapEntry, NetSetCommunity, NoMemory, Owned, PrefixEntry,
+    Router, address_text, prefix_text,
 };
 use std::alloc::Global;
 
@@ -38,32 +39,55 @@ fn entry_text(alloc: Global, entry: &NetMapEntry) -> Result<String, NoMemory> {
     Ok(format!(in alloc; "{seq} {action} {matches} {numbers} {rest} {community}\n")?)
 }
 
-// The prefix lists of a router.
-fn push_prefix_lists(out: &mut String, alloc: Global, router: &Router) -> Result<(), NoMemory> {
-    for list in router.prefix_lists.as_slice() {
-        out.push_str(&format!(in alloc; "prefix list {}\n", list.name)?)?;
-        for entry in list.entries.as_slice() {
-            let (seq, action, least, most) = (
-                entry.seq,
-                action(entry.permit),
-                entry.least,
-                entry.most,
-            );
-            let prefix = prefix_text(alloc, &entry.prefix)?;
-            out.push_str(&format!(in alloc; "{seq} {action} {prefix} {least} to {most}\n")?)?;
-        }
+fn push_prefix_entries(
+    out: &mut String,
+    alloc: Global,
+    entries: &[PrefixEntry],
+) -> Result<(), NoMemory> {
+    for entry in entries {
+        let (seq, action, least, most) = (entry.seq, action(entry.permit), entry.least, entry.most);
+        let prefix = prefix_text(alloc, &entry.prefix)?;
+        out.push_str(&format!(in alloc; "{seq} {action} {prefix} {least} to {most}\n")?)?;
     }
     Ok(())
 }
 
-// The community lists of a router, sets as words of bits.
+fn push_prefix_lists(out: &mut String, alloc: Global, router: &Router) -> Result<(), NoMemory> {
+    for list in router.prefix_lists.as_slice() {
+        out.push_str(&format!(in alloc; "prefix list {}\n", list.name)?)?;
+        push_prefix_entries(out, alloc, list.entries.as_slice())?;
+    }
+    Ok(())
+}
+
+// Entries of a community list, sets as words of bits.
+fn push_community_entries(
+    out: &mut String,
+    alloc: Global,
+    entries: &[NetCommunityEntry],
+) -> Result<(), NoMemory> {
+    for entry in entries {
+        let (seq, action, values) = (entry.seq, action(entry.permit), entry.values.word());
+        out.push_str(&format!(in alloc; "{seq} {action} {values}\n")?)?;
+    }
+    Ok(())
+}
+
 fn push_community_lists(out: &mut String, alloc: Global, router: &Router) -> Result<(), NoMemory> {
     for list in router.community_lists.as_slice() {
         out.push_str(&format!(in alloc; "community list {}\n", list.name)?)?;
-        for entry in list.entries.as_slice() {
-            let (seq, action, values) = (entry.seq, action(entry.permit), entry.values.word());
-            out.push_str(&format!(in alloc; "{seq} {action} {values}\n")?)?;
-        }
+        push_community_entries(out, alloc, list.entries.as_slice())?;
+    }
+    Ok(())
+}
+
+fn push_map_entries(
+    out: &mut String,
+    alloc: Global,
+    entries: &[NetMapEntry],
+) -> Result<(), NoMemory> {
+    for entry in entries {
+        out.push_str(&entry_text(alloc, entry)?)?;
     }
     Ok(())
 }
@@ -71,9 +95,18 @@ fn push_community_lists(out: &mut String, alloc: Global, router: &Router) -> Res
 fn push_maps(out: &mut String, alloc: Global, router: &Router) -> Result<(), NoMemory> {
     for routes in router.maps.as_slice() {
         out.push_str(&format!(in alloc; "map {}\n", routes.name)?)?;
-        for entry in routes.entries.as_slice() {
-            out.push_str(&entry_text(alloc, entry)?)?;
-        }
+        push_map_entries(out, alloc, routes.entries.as_slice())?;
+    }
+    Ok(())
+}
+
+fn push_owned(out: &mut String, alloc: Global, owned: &[Owned]) -> Result<(), NoMemory> {
+    for entry in owned {
+        let prefix = prefix_text(alloc, &entry.prefix)?;
+        let (network, stub, cost) = (entry.network, entry.stub, entry.ospf_cost);
+        out.push_str(&format!(in alloc;
+            "owns {prefix} network {network} stub {stub} cost {cost:?}\n"
+        )?)?;
     }
     Ok(())
 }
@@ -83,13 +116,7 @@ fn push_router(out: &mut String, alloc: Global, router: &Router) -> Result<(), N
     out.push_str(&format!(in alloc;
         "router {host} as {asn:?} connected {connected:?} ospf {ospf:?}\n"
     )?)?;
-    for owned in router.owned.as_slice() {
-        let prefix = prefix_text(alloc, &owned.prefix)?;
-        let (network, stub, cost) = (owned.network, owned.stub, owned.ospf_cost);
-        out.push_str(&format!(in alloc;
-            "owns {prefix} network {network} stub {stub} cost {cost:?}\n"
-        )?)?;
-    }
+    push_owned(out, alloc, router.owned.as_slice())?;
     push_prefix_lists(out, alloc, router)?;
     push_community_lists(out, alloc, router)?;
     push_maps(out, alloc, router)
@@ -114,23 +141,39 @@ fn push_links(out: &mut String, alloc: Global, net: &Net) -> Result<(), NoMemory
     Ok(())
 }
 
-/// The network as a text: a line for each router with what it has, for each link and each of its ends, for all
-/// communities, and for each notice.
-pub fn describe(alloc: Global, net: &Net) -> Result<String, NoMemory> {
-    let mut out = String::new(alloc);
+fn push_routers(out: &mut String, alloc: Global, net: &Net) -> Result<(), NoMemory> {
     for router in net.routers() {
-        push_router(&mut out, alloc, router)?;
+        push_router(out, alloc, router)?;
     }
-    push_links(&mut out, alloc, net)?;
+    Ok(())
+}
+
+// All communities of the network, in one line.
+fn push_communities(out: &mut String, alloc: Global, net: &Net) -> Result<(), NoMemory> {
     out.push_str("communities")?;
     for community in net.communities() {
         let (high, low) = (community >> 16, community & 0xFFFF);
         out.push_str(&format!(in alloc; " {high}:{low}")?)?;
     }
     out.push_str("\n")?;
+    Ok(())
+}
+
+fn push_notices(out: &mut String, alloc: Global, net: &Net) -> Result<(), NoMemory> {
     for notice in net.notices() {
         let address = address_text(alloc, notice.address)?;
         out.push_str(&format!(in alloc; "notice {} {address}\n", notice.router)?)?;
     }
+    Ok(())
+}
+
+/// The network as a text: a line for each router with what it has, for each link and each of its ends, for all
+/// communities, and for each notice.
+pub fn describe(alloc: Global, net: &Net) -> Result<String, NoMemory> {
+    let mut out = String::new(alloc);
+    push_routers(&mut out, alloc, net)?;
+    push_links(&mut out, alloc, net)?;
+    push_communities(&mut out, alloc, net)?;
+    push_notices(&mut out, alloc, net)?;
     Ok(out)
 }

@@ -75,7 +75,7 @@ fn run_case(rt: &impl Print, alloc: Global, case: &Case) -> io::Result<()> {
     }
 }
 
-// Runs the cases of a table, and prints how many there are, and how many others for their files alone.
+// Runs the cases of a table, and prints how many there are, and how many of them are there for their files alone.
 fn run_table(rt: &(impl Print + Files + AllocGlobal), path: &str) -> io::Result<()> {
     let alloc = rt.alloc();
     let text = fs::read_to_string(rt, path)?;
