@@ -1,4 +1,5 @@
 pub mod AddressLemmas
+pub mod ArcLemmas
 pub mod CutLemmas
 pub mod MaskLemmas
 pub mod SetLemmas

@@ -1,11 +1,34 @@
--- Arcs: one direction of a link, its two ends, and whether it is up; and networks without sessions.
-use Rattle.std.specs.Prelude.{ℕ, ◌≡◌, ◌&&◌, Bool, true, false, not, List, All, Option, option_map, slice_get}
+-- Arcs: one direction of a link, its two ends, and whether it is up; the arcs of a network, and networks without
+-- sessions.
+use Rattle.std.specs.Prelude.{ℕ, ◌≡◌, ◌&&◌, Bool, true, false, not, List, [], ◌∷◌, length, All, Option, Some, None, ◌-◌, option_map, slice_get}
+use Rattle.std.specs.List.{range_with_len}
 use Rattle.std.specs.Option.{option_map_or}
 use Rattle.net_types.specs.declared.arcs.Arc.{Arc}
 use Rattle.net_types.specs.declared.network.Link.{Link}
 use Rattle.net_types.specs.declared.network.End.{End}
 use Rattle.net_types.specs.FailSets.{holds}
 use Rattle.net_types.specs.NetValue.{NetValue}
+
+-- the two arcs of a link: from the router with the lower number to the one with the higher, and back
+abbrev pub up_of : ℕ → Arc
+up_of link = record { link = link; down = false }
+
+abbrev pub down_of : ℕ → Arc
+down_of link = record { link = link; down = true }
+
+-- both arcs of each of these links
+abbrev pub both_ways : List ℕ → List Arc
+both_ways [] = []
+both_ways (link ∷ links) = up_of link ∷ down_of link ∷ both_ways links
+
+-- the arcs of a network, in the order of its links
+abbrev pub arcs_of : NetValue → List Arc
+arcs_of net = both_ways (range_with_len 0 (length net.links))
+
+-- the arcs that are left of those of links: maybe one down, then both of each link from one number on, before the other
+abbrev pub arcs_left : Option Arc → ℕ → ℕ → List Arc
+arcs_left (Some arc) link end = arc ∷ both_ways (range_with_len link (end - link))
+arcs_left None link end = both_ways (range_with_len link (end - link))
 
 -- the end that a direction of the link begins at, and the one that it goes to
 abbrev pub from_end : Bool → Link → End

@@ -16,7 +16,7 @@ use Rattle.net_types.specs.AddressTexts.{address_text, prefix_text}
 use Rattle.net_types.specs.Communities.{community_of}
 use Rattle.net_types.specs.Numerals.{number_in}
 use Rattle.net_types.specs.Then.{◌then◌}
-use Rattle.net_types.specs.Arcs.{sender_of, receiver_of}
+use Rattle.net_types.specs.Arcs.{up_of, down_of, sender_of, receiver_of}
 use Rattle.net_types.specs.Better.{is_better}
 use Rattle.net_types.specs.Distance.{Crosses}
 use Rattle.net_types.specs.FailSets.{IsFailureSet, holds, without}
@@ -115,14 +115,7 @@ abbrev pub BetterGoesOn : Type 0
 BetterGoesOn =
     (net : NetValue) (a b c : Route) → is_better net a b ≡ true → is_better net b c ≡ true → is_better net a c ≡ true
 
--- the two arcs of a link
-abbrev pub up_of : ℕ → Arc
-up_of link = record { link = link; down = false }
-
-abbrev pub down_of : ℕ → Arc
-down_of link = record { link = link; down = true }
-
--- the one goes from the lower router number to the higher, and the other back
+-- one arc of a link goes from the lower router number to the higher, and the other back
 abbrev pub UpGoesToTheHigher : Type 0
 UpGoesToTheHigher =
     (net : NetValue) (link u v : ℕ) → IsNet net → sender_of net (up_of link) ≡ Some u → receiver_of net (up_of link) ≡ Some v → u < v

@@ -16,6 +16,7 @@ mod bits;
 mod communities;
 mod config;
 mod cuts;
+mod distances;
 mod fail_sets;
 mod laws;
 mod lists;
@@ -30,7 +31,7 @@ mod texts;
 
 pub use address_texts::{address_text, prefix_text};
 pub use addresses::{read_address, read_interface};
-pub use arcs::Arc;
+pub use arcs::{Arc, same_router};
 pub use bits::Bits64;
 pub use communities::{NO_ADVERTISE, NO_EXPORT, read_community};
 pub use config::{
@@ -38,6 +39,7 @@ pub use config::{
     PrefixList, Redistribute, RouteMap, RouterConfig, SetCommunity, Sets, SourceFile, read_origin,
 };
 pub use cuts::cut;
+pub use distances::distance_at;
 pub use fail_sets::FailSet;
 pub use laws::{
     law_of_addresses, law_of_arcs, law_of_better, law_of_communities, law_of_failure_sets,
