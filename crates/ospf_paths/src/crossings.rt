@@ -20,18 +20,14 @@ pub(crate) struct Crossing {
 pub(crate) fn crossing_of(net: &Net, failed: &FailSet, arc: Arc) -> Option<Crossing>
     ensures { MatchOption result ((u v cost : ℕ) → Crosses net.now failed.now arc u v cost → ⊥) (λ c. Crosses net.now failed.now arc c.from c.to c.cost) }
 {
-    let link = net.links().get(usize::from(arc.link))?;
+    let link = net.link_of(arc)?;
     if !link.adjacency || failed.holds(arc.link) {
         return None;
     }
-    let (start, end) = if arc.down {
-        (link.high, link.low)
-    } else {
-        (link.low, link.high)
-    };
+    let start = link.from_end(arc.down);
     Some(Crossing {
         from: start.router,
-        to: end.router,
+        to: link.to_end(arc.down).router,
         cost: start.cost,
     })
 }

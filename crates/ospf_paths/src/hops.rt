@@ -5,21 +5,14 @@ ghost use Rattle.net_types.specs.Distance.{distance_at, IsNextHop};
 ghost use Rattle.ospf_paths.specs.Laws.{IsTightArc};
 
 use crate::crossings::{Crossing, crossing_of};
-use net_types::{Arc, FailSet, Net, Prefix};
-
-// The distance of a router, where it has one.
-fn distance_of(distances: &[Option<u64>], router: u8) -> Option<u64>
-    ensures { result ≡ distance_at distances.now router }
-{
-    *distances.get(usize::from(router))?
-}
+use net_types::{Arc, FailSet, Net, Prefix, distance_at};
 
 // Whether the distance of the router that the crossing begins at is its cost and the other's together.
 fn is_least(distances: &[Option<u64>], crossing: &Crossing) -> bool
     ensures { IsTrue result ↔ ((far : ℕ) × (distance_at distances.now crossing.now.to ≡ Some far) × (distance_at distances.now crossing.now.from ≡ Some (crossing.now.cost + far))) }
 {
-    let near = distance_of(distances, crossing.from);
-    let far = distance_of(distances, crossing.to);
+    let near = distance_at(distances, crossing.from);
+    let far = distance_at(distances, crossing.to);
     match (near, far) {
         (Some(near), Some(far)) => near >= far && near - far == u64::from(crossing.cost),
         _ => false,

@@ -84,8 +84,9 @@ fn visit_link(net: &Net, failed: &FailSet, distances: &mut [Option<u64>], link: 
     ensures { Passed net.now failed.now distances.old distances.new result link (link + 1) }
 {
     net.valid();
-    let up = visit(net, failed, distances, Arc { link, down: false });
-    let down = visit(net, failed, distances, Arc { link, down: true });
+    let (there, back) = Arc::both(link);
+    let up = visit(net, failed, distances, there);
+    let down = visit(net, failed, distances, back);
     up || down
 }
 
