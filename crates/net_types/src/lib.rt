@@ -54,6 +54,6 @@ pub use network::{
 pub use no_memory::NoMemory;
 pub use numbers::read_number;
 pub use prefixes::Prefix;
-pub use refusals::{BundleRefusal, FormRefusal, NetRefusal, ReadRefusal};
+pub use refusals::{BundleRefusal, BundleSide, FormRefusal, NetRefusal, ReadRefusal};
 pub use routes::{Route, Source};
 pub use texts::Text;

@@ -4,7 +4,7 @@ ghost use Rattle.std.specs.Prelude.{◌≡◌, ◌<◌, IfSome, length};
 ghost use Rattle.std.specs.Option.{option_copied};
 ghost use Rattle.net_types.specs.NetValue.{NetValue};
 ghost use Rattle.net_types.specs.NetFacts.{IsNet};
-ghost use Rattle.net_types.specs.Numbering.{community_among, community_number, router_among, router_number};
+ghost use Rattle.net_types.specs.Numbering.{community_among, community_number, host_of, router_among, router_number};
 ghost use Rattle.net_types.specs.Owners.{entry_of, is_owned, owns};
 
 use crate::{Bits64, List, Origin, Prefix, PrefixList, Text};
@@ -266,6 +266,16 @@ impl Net {
         match router_among(self.routers(), host) {
             Some(number) => Some(number as u8),
             None => None,
+        }
+    }
+
+    /// The host of the router with this number, no text where there is no such router.
+    pub fn host_of(&self, router: u8) -> &str
+        ensures { result.now ≡ host_of self.now router }
+    {
+        match self.routers().get(usize::from(router)) {
+            Some(found) => found.host.as_str(),
+            None => "",
         }
     }
 

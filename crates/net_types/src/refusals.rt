@@ -67,6 +67,15 @@ pub enum BundleRefusal {
     NoMemory,
 }
 
+/// Which of the two bundles of a change.
+#[derive(Clone, Copy, PartialEq, Eq, Debug)]
+pub enum BundleSide {
+    /// The configurations before it.
+    Base,
+    /// The configurations after it.
+    New,
+}
+
 /// Why a TOML file is refused. Place 0 is its top level; its tables are counted from 1.
 #[derive(Clone, Copy, PartialEq, Eq, Debug)]
 pub enum FormRefusal {
