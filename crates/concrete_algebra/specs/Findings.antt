@@ -9,11 +9,16 @@ use Rattle.net_types.specs.Distance.{distance_at}
 use Rattle.net_types.specs.NetValue.{NetValue}
 use Rattle.net_types.specs.Owners.{owns}
 use Rattle.net_types.specs.PrefixValue.{PrefixValue}
+use Rattle.concrete_algebra.specs.declared.asked.Asked.{Asked}
 use Rattle.concrete_algebra.specs.declared.findings.Findings.{Findings}
 use Rattle.concrete_algebra.specs.Carrying.{carry_gives}
 use Rattle.concrete_algebra.specs.LocalRoutes.{local_of}
-use Rattle.concrete_algebra.specs.Problem.{Problem}
+use Rattle.concrete_algebra.specs.Problem.{Problem, problem_of}
 use Rattle.concrete_algebra.specs.Stability.{IsCandidate, is_learned, label_at}
+
+-- the problem that is asked about
+abbrev pub problem_asked : Asked → Problem
+problem_asked asked = problem_of asked.net.now asked.prefix asked.failed.now asked.distances.now
 
 -- what the arc carries of its sender's label
 abbrev pub carried_label : NetValue → PrefixValue → Arc → List (Option Route) → Option ℕ → Option Route

@@ -7,10 +7,11 @@ ghost use Rattle.net_types.specs.Distance.{distance_at};
 ghost use Rattle.concrete_algebra.specs.Findings.{arrival, carried_label, is_into, local_candidate};
 ghost use Rattle.concrete_algebra.specs.Stability.{is_learned, label_at};
 
+use crate::asked::Asked;
 use crate::carrying::carry;
 use crate::local_routes::local_route;
 use crate::orders::{same_router, sender_of};
-use net_types::{Arc, FailSet, Net, NoMemory, Prefix, Route, Source};
+use net_types::{Arc, FailSet, Net, NoMemory, Route, Source};
 use std::alloc::Global;
 
 /// The label of a router, where it has one.
@@ -65,20 +66,19 @@ fn is_into(net: &Net, failed: &FailSet, arc: Arc, router: u8) -> bool
 // What the arc carries of its sender's label.
 fn carried_label(
     alloc: Global,
-    net: &Net,
-    prefix: Prefix,
+    asked: &Asked<'_>,
     arc: Arc,
     labels: &[Option<Route>],
     sender: Option<u8>,
 ) -> Result<Option<Route>, NoMemory>
-    ensures { IfOk result (λ carried. carried ≡ carried_label net.now prefix arc labels.now sender) }
+    ensures { IfOk result (λ carried. carried ≡ carried_label asked.now.net.now asked.now.prefix arc labels.now sender) }
 {
     let Some(sender) = sender else {
         return Ok(None);
     };
     match label_at(labels, sender) {
         None => Ok(None),
-        Some(sent) => carry(alloc, net, prefix, arc, sent),
+        Some(sent) => carry(alloc, asked.net, asked.prefix, arc, sent),
     }
 }
 
@@ -86,19 +86,17 @@ fn carried_label(
 #[tactic(auto, unfolding(crate::specs::Findings::arrival))]
 pub(crate) fn arrival(
     alloc: Global,
-    net: &Net,
-    prefix: Prefix,
-    failed: &FailSet,
+    asked: &Asked<'_>,
     labels: &[Option<Route>],
     router: u8,
     arc: Arc,
 ) -> Result<Option<Route>, NoMemory>
-    ensures { IfOk result (λ candidate. candidate ≡ arrival net.now prefix failed.now labels.now router arc) }
+    ensures { IfOk result (λ candidate. candidate ≡ arrival asked.now.net.now asked.now.prefix asked.now.failed.now labels.now router arc) }
 {
-    if !is_into(net, failed, arc, router) {
+    if !is_into(asked.net, asked.failed, arc, router) {
         return Ok(None);
     }
-    carried_label(alloc, net, prefix, arc, labels, sender_of(net, arc))
+    carried_label(alloc, asked, arc, labels, sender_of(asked.net, arc))
 }
 
 // The distance of a router, where it has one.
@@ -112,18 +110,17 @@ fn distance_of(distances: &[Option<u64>], router: u8) -> Option<u64>
 #[tactic(auto, unfolding(crate::specs::Findings::local_candidate))]
 pub(crate) fn local_candidate(
     alloc: Global,
-    net: &Net,
-    prefix: Prefix,
-    distances: &[Option<u64>],
+    asked: &Asked<'_>,
     labels: &[Option<Route>],
     router: u8,
 ) -> Result<Option<Route>, NoMemory>
-    requires router { router < length net.now.routers }
-    requires small { (u distance : ℕ) → distance_at distances.now u ≡ Some distance → distance < 2 ^ 32 }
-    ensures { IfOk result (λ candidate. candidate ≡ local_candidate net.now prefix distances.now labels.now router) }
+    requires router { router < length asked.now.net.now.routers }
+    requires small { (u distance : ℕ) → distance_at asked.now.distances.now u ≡ Some distance → distance < 2 ^ 32 }
+    ensures { IfOk result (λ candidate. candidate ≡ local_candidate asked.now.net.now asked.now.prefix asked.now.distances.now labels.now router) }
 {
-    if !net.owns(router, &prefix) && is_learned(label_at(labels, router)) {
+    if !asked.net.owns(router, &asked.prefix) && is_learned(label_at(labels, router)) {
         return Ok(None);
     }
-    local_route(alloc, net, prefix, router, distance_of(distances, router))
+    let distance = distance_of(asked.distances, router);
+    local_route(alloc, asked.net, asked.prefix, router, distance)
 }

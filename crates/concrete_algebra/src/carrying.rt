@@ -5,8 +5,8 @@ ghost use Rattle.net_types.specs.Arcs.{from_end, to_end};
 ghost use Rattle.net_types.specs.Routes.{is_on};
 ghost use Rattle.concrete_algebra.specs.Carrying.{carry_gives, end_sends, end_takes, export_gives, holds_value, import_gives, is_kept_home, sent_by};
 
-use crate::copies::prepended;
 use crate::maps::run_map;
+use crate::paths::prepended;
 use net_types::{
     Arc, Bits64, End, Link, NO_ADVERTISE, NO_EXPORT, Net, NoMemory, Prefix, Route, Source,
 };

@@ -3,14 +3,14 @@
 ghost use Rattle.std.specs.Prelude.{◌≡◌, ◌<◌, ◌^◌, ℕ, IfOk, Some, length};
 ghost use Rattle.std.specs.Option.{option_copied};
 ghost use Rattle.net_types.specs.Distance.{distance_at};
-ghost use Rattle.concrete_algebra.specs.Findings.{AllSay, LinkSays, LinksSay, Says, arrival, either_of, local_candidate, stands};
-ghost use Rattle.concrete_algebra.specs.Problem.{problem_of};
+ghost use Rattle.concrete_algebra.specs.Findings.{AllSay, LinkSays, LinksSay, Says, arrival, either_of, local_candidate, problem_asked, stands};
 ghost use Rattle.concrete_algebra.specs.Stability.{label_at};
 
+use crate::asked::Asked;
 use crate::candidates::{arrival, label_at, local_candidate};
-use crate::copies::same_route;
 use crate::orders::better;
-use net_types::{Arc, FailSet, Net, NoMemory, Prefix, Route};
+use crate::paths::same_route;
+use net_types::{Arc, Net, NoMemory, Route};
 use std::alloc::Global;
 
 /// What candidates say of a label.
@@ -57,53 +57,47 @@ fn findings_of(net: &Net, label: Option<&Route>, candidate: Option<&Route>) -> F
 // What the candidate over an arc says of the router's label.
 fn arc_says(
     alloc: Global,
-    net: &Net,
-    prefix: Prefix,
-    failed: &FailSet,
+    asked: &Asked<'_>,
     labels: &[Option<Route>],
     router: u8,
     arc: Arc,
 ) -> Result<Findings, NoMemory>
-    ensures { IfOk result (λ findings. Says net.now (label_at labels.now router) (arrival net.now prefix failed.now labels.now router arc) findings) }
+    ensures { IfOk result (λ findings. Says asked.now.net.now (label_at labels.now router) (arrival asked.now.net.now asked.now.prefix asked.now.failed.now labels.now router arc) findings) }
 {
-    let candidate = arrival(alloc, net, prefix, failed, labels, router, arc)?;
-    Ok(findings_of(net, label_at(labels, router), candidate.as_ref()))
+    let candidate = arrival(alloc, asked, labels, router, arc)?;
+    Ok(findings_of(asked.net, label_at(labels, router), candidate.as_ref()))
 }
 
 // What the candidates over both directions of a link say of the router's label.
 fn link_says(
     alloc: Global,
-    net: &Net,
-    prefix: Prefix,
-    failed: &FailSet,
+    asked: &Asked<'_>,
     labels: &[Option<Route>],
     router: u8,
     link: u8,
 ) -> Result<Findings, NoMemory>
-    ensures { IfOk result (λ findings. LinkSays net.now prefix failed.now labels.now router link findings) }
+    ensures { IfOk result (λ findings. LinkSays asked.now.net.now asked.now.prefix asked.now.failed.now labels.now router link findings) }
 {
     let up = Arc { link, down: false };
     let down = Arc { link, down: true };
-    let up = arc_says(alloc, net, prefix, failed, labels, router, up)?;
-    let down = arc_says(alloc, net, prefix, failed, labels, router, down)?;
+    let up = arc_says(alloc, asked, labels, router, up)?;
+    let down = arc_says(alloc, asked, labels, router, down)?;
     Ok(either(up, down))
 }
 
 // What the candidates over all links say of the router's label.
 fn links_say(
     alloc: Global,
-    net: &Net,
-    prefix: Prefix,
-    failed: &FailSet,
+    asked: &Asked<'_>,
     labels: &[Option<Route>],
     router: u8,
 ) -> Result<Findings, NoMemory>
-    ensures { IfOk result (λ findings. LinksSay net.now prefix failed.now labels.now router (length net.now.links) findings) }
+    ensures { IfOk result (λ findings. LinksSay asked.now.net.now asked.now.prefix asked.now.failed.now labels.now router (length asked.now.net.now.links) findings) }
 {
-    net.valid();
+    asked.net.valid();
     let mut findings = NOTHING;
-    for link in 0..net.links().len() {
-        let more = link_says(alloc, net, prefix, failed, labels, router, link as u8)?;
+    for link in 0..asked.net.links().len() {
+        let more = link_says(alloc, asked, labels, router, link as u8)?;
         findings = either(findings, more);
     }
     Ok(findings)
@@ -112,18 +106,16 @@ fn links_say(
 // What the router's local route, where it is a candidate, says of the router's label.
 fn local_says(
     alloc: Global,
-    net: &Net,
-    prefix: Prefix,
-    distances: &[Option<u64>],
+    asked: &Asked<'_>,
     labels: &[Option<Route>],
     router: u8,
 ) -> Result<Findings, NoMemory>
-    requires router { router < length net.now.routers }
-    requires small { (u distance : ℕ) → distance_at distances.now u ≡ Some distance → distance < 2 ^ 32 }
-    ensures { IfOk result (λ findings. Says net.now (label_at labels.now router) (local_candidate net.now prefix distances.now labels.now router) findings) }
+    requires router { router < length asked.now.net.now.routers }
+    requires small { (u distance : ℕ) → distance_at asked.now.distances.now u ≡ Some distance → distance < 2 ^ 32 }
+    ensures { IfOk result (λ findings. Says asked.now.net.now (label_at labels.now router) (local_candidate asked.now.net.now asked.now.prefix asked.now.distances.now labels.now router) findings) }
 {
-    let candidate = local_candidate(alloc, net, prefix, distances, labels, router)?;
-    Ok(findings_of(net, label_at(labels, router), candidate.as_ref()))
+    let candidate = local_candidate(alloc, asked, labels, router)?;
+    Ok(findings_of(asked.net, label_at(labels, router), candidate.as_ref()))
 }
 
 /// Whether the router may hold the label, after what all its candidates say.
@@ -139,19 +131,16 @@ pub(crate) fn stands(label: Option<&Route>, findings: Findings) -> bool
 /// What all candidates of the router say of its label.
 pub(crate) fn all_say(
     alloc: Global,
-    net: &Net,
-    prefix: Prefix,
-    failed: &FailSet,
-    distances: &[Option<u64>],
+    asked: &Asked<'_>,
     labels: &[Option<Route>],
     router: u8,
 ) -> Result<Findings, NoMemory>
-    requires router { router < length net.now.routers }
-    requires small { (u distance : ℕ) → distance_at distances.now u ≡ Some distance → distance < 2 ^ 32 }
-    ensures { IfOk result (λ findings. AllSay net.now (problem_of net.now prefix failed.now distances.now) labels.now router findings) }
+    requires router { router < length asked.now.net.now.routers }
+    requires small { (u distance : ℕ) → distance_at asked.now.distances.now u ≡ Some distance → distance < 2 ^ 32 }
+    ensures { IfOk result (λ findings. AllSay asked.now.net.now (problem_asked asked.now) labels.now router findings) }
 {
-    net.valid();
-    let learned = links_say(alloc, net, prefix, failed, labels, router)?;
-    let own = local_says(alloc, net, prefix, distances, labels, router)?;
+    asked.net.valid();
+    let learned = links_say(alloc, asked, labels, router)?;
+    let own = local_says(alloc, asked, labels, router)?;
     Ok(either(learned, own))
 }

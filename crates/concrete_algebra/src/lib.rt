@@ -10,15 +10,16 @@
 //! Not: that a stable labelling exists.
 #![tactic(auto)]
 
+mod asked;
 mod candidates;
 mod carrying;
-mod copies;
 mod findings;
 mod laws;
 mod local_routes;
 mod maps;
 mod matches;
 mod orders;
+mod paths;
 mod sets;
 mod stability;
 

@@ -29,11 +29,11 @@ fn owner_route(
     alloc: Global,
     net: &Net,
     prefix: Prefix,
-    number: u8,
-    router: &Router,
+    router: u8,
+    found: &Router,
     entry: &Owned,
 ) -> Result<Option<Route>, NoMemory>
-    ensures { IfOk result (λ route. route ≡ owner_route net.now prefix number router.now entry.now) }
+    ensures { IfOk result (λ route. route ≡ owner_route net.now prefix router found.now entry.now) }
 {
     if entry.network {
         return Ok(Some(originated(alloc, Origin::Igp, 0)));
@@ -42,7 +42,7 @@ fn owner_route(
         return Ok(None);
     }
     let plain = originated(alloc, Origin::Incomplete, 0);
-    run_map(alloc, net, number, router.connected, prefix, &plain)
+    run_map(alloc, net, router, found.connected, prefix, &plain)
 }
 
 // The local route of another router.
@@ -50,18 +50,18 @@ fn ospf_route(
     alloc: Global,
     net: &Net,
     prefix: Prefix,
-    number: u8,
-    router: &Router,
+    router: u8,
+    found: &Router,
     distance: Option<u64>,
 ) -> Result<Option<Route>, NoMemory>
     requires { IfSome distance (λ d. d < 2 ^ 32) }
-    ensures { IfOk result (λ route. route ≡ ospf_route net.now prefix number router.now distance) }
+    ensures { IfOk result (λ route. route ≡ ospf_route net.now prefix router found.now distance) }
 {
     match distance {
         None => Ok(None),
         Some(distance) => {
             let plain = originated(alloc, Origin::Incomplete, distance as u32);
-            run_map(alloc, net, number, router.ospf, prefix, &plain)
+            run_map(alloc, net, router, found.ospf, prefix, &plain)
         }
     }
 }

@@ -11,34 +11,34 @@ use std::alloc::Global;
 // What an entry that matches gives.
 fn entry_gives(
     alloc: Global,
-    router: &Router,
-    number: u8,
+    found: &Router,
+    router: u8,
     entry: &NetMapEntry,
     route: &Route,
 ) -> Result<Option<Route>, NoMemory>
-    ensures { IfOk result (λ given. given ≡ entry_gives router.now number entry.now route.now) }
+    ensures { IfOk result (λ given. given ≡ entry_gives found.now router entry.now route.now) }
 {
     if !entry.permit {
         return Ok(None);
     }
-    Ok(Some(under_sets(alloc, router, number, &entry.sets, route)?))
+    Ok(Some(under_sets(alloc, found, router, &entry.sets, route)?))
 }
 
 // What the entries of a map give: the first that matches decides.
 #[tactic(auto, unfolding(crate::specs::Maps::entries_give))]
 fn entries_give(
     alloc: Global,
-    router: &Router,
-    number: u8,
+    found: &Router,
+    router: u8,
     prefix: &Prefix,
     entries: &[NetMapEntry],
     route: &Route,
 ) -> Result<Option<Route>, NoMemory>
-    ensures { IfOk result (λ given. given ≡ entries_give router.now number prefix.now entries.now route.now) }
+    ensures { IfOk result (λ given. given ≡ entries_give found.now router prefix.now entries.now route.now) }
 {
     for entry in entries {
-        if entry_matches(router, prefix, entry, route.communities) {
-            return entry_gives(alloc, router, number, entry, route);
+        if entry_matches(found, prefix, entry, route.communities) {
+            return entry_gives(alloc, found, router, entry, route);
         }
     }
     Ok(None)

@@ -3,8 +3,8 @@
 ghost use Rattle.std.specs.Prelude.{◌≡◌, IfOk};
 ghost use Rattle.concrete_algebra.specs.Maps.{deleted_by, under_sets, with_set, without_deleted};
 
-use crate::copies::prepended;
 use crate::matches::community_entries;
+use crate::paths::prepended;
 use net_types::{Bits64, NetCommunityEntry, NetSetCommunity, NetSets, NoMemory, Route, Router};
 use std::alloc::Global;
 
@@ -52,18 +52,18 @@ pub fn with_set(set: NetSetCommunity, held: Bits64) -> Bits64
 #[tactic(auto, unfolding(crate::specs::Maps::under_sets))]
 pub(crate) fn under_sets(
     alloc: Global,
-    router: &Router,
-    number: u8,
+    found: &Router,
+    router: u8,
     sets: &NetSets,
     route: &Route,
 ) -> Result<Route, NoMemory>
-    ensures { IfOk result (λ changed. changed ≡ under_sets router.now number sets.now route.now) }
+    ensures { IfOk result (λ changed. changed ≡ under_sets found.now router sets.now route.now) }
 {
-    let left = without_deleted(router, sets.delete, route.communities);
+    let left = without_deleted(found, sets.delete, route.communities);
     Ok(Route {
         weight: sets.weight.unwrap_or(route.weight),
         preference: sets.preference.unwrap_or(route.preference),
-        path: prepended(alloc, number, sets.prepend, route.path.as_slice())?,
+        path: prepended(alloc, router, sets.prepend, route.path.as_slice())?,
         origin: sets.origin.unwrap_or(route.origin),
         med: sets.med.unwrap_or(route.med),
         communities: with_set(sets.community, left),

@@ -4,9 +4,11 @@ ghost use Rattle.std.specs.Prelude.{◌≡◌, ◌<◌, ◌^◌, ◌↔◌, ℕ,
 ghost use Rattle.net_types.specs.Distance.{distance_at};
 ghost use Rattle.concrete_algebra.specs.declared.stability.StableAnswer.TheVariants.{Stable, Breaks};
 ghost use Rattle.concrete_algebra.specs.Answers.{IsAnswer};
+ghost use Rattle.concrete_algebra.specs.Findings.{problem_asked};
 ghost use Rattle.concrete_algebra.specs.Problem.{problem_of};
 ghost use Rattle.concrete_algebra.specs.Stability.{BreaksFirst, IsStable, IsStableAt};
 
+use crate::asked::Asked;
 use crate::candidates::label_at;
 use crate::findings::{all_say, stands};
 use net_types::{FailSet, Net, NoMemory, Prefix, Route};
@@ -24,38 +26,32 @@ pub enum StableAnswer {
 // Whether the router holds none and has no candidate, or holds a candidate and has no better one.
 fn is_stable_at(
     alloc: Global,
-    net: &Net,
-    prefix: Prefix,
-    failed: &FailSet,
-    distances: &[Option<u64>],
+    asked: &Asked<'_>,
     labels: &[Option<Route>],
     router: u8,
 ) -> Result<bool, NoMemory>
-    requires router { router < length net.now.routers }
-    requires small { (u distance : ℕ) → distance_at distances.now u ≡ Some distance → distance < 2 ^ 32 }
-    ensures { IfOk result (λ stable. IsTrue stable ↔ IsStableAt (problem_of net.now prefix failed.now distances.now) labels.now router) }
+    requires router { router < length asked.now.net.now.routers }
+    requires small { (u distance : ℕ) → distance_at asked.now.distances.now u ≡ Some distance → distance < 2 ^ 32 }
+    ensures { IfOk result (λ stable. IsTrue stable ↔ IsStableAt (problem_asked asked.now) labels.now router) }
 {
-    let findings = all_say(alloc, net, prefix, failed, distances, labels, router)?;
+    let findings = all_say(alloc, asked, labels, router)?;
     Ok(stands(label_at(labels, router), findings))
 }
 
 // The least router where the labelling breaks, if it breaks at one.
 fn first_break(
     alloc: Global,
-    net: &Net,
-    prefix: Prefix,
-    failed: &FailSet,
-    distances: &[Option<u64>],
+    asked: &Asked<'_>,
     labels: &[Option<Route>],
 ) -> Result<StableAnswer, NoMemory>
-    requires long { length labels.now ≡ length net.now.routers }
-    requires small { (u distance : ℕ) → distance_at distances.now u ≡ Some distance → distance < 2 ^ 32 }
-    ensures { IfOk result (λ answer. IsAnswer (problem_of net.now prefix failed.now distances.now) labels.now answer) }
+    requires long { length labels.now ≡ length asked.now.net.now.routers }
+    requires small { (u distance : ℕ) → distance_at asked.now.distances.now u ≡ Some distance → distance < 2 ^ 32 }
+    ensures { IfOk result (λ answer. IsAnswer (problem_asked asked.now) labels.now answer) }
 {
-    net.valid();
-    for router in 0..net.routers().len() {
+    asked.net.valid();
+    for router in 0..asked.net.routers().len() {
         let router = router as u8;
-        if !is_stable_at(alloc, net, prefix, failed, distances, labels, router)? {
+        if !is_stable_at(alloc, asked, labels, router)? {
             return Ok(StableAnswer::Breaks(router));
         }
     }
@@ -83,5 +79,11 @@ pub fn check_stable(
     ensures stable { IfOk result (λ answer. (answer ≡ Stable) ↔ IsStable (problem_of net.now prefix failed distances.now) labels.now) }
     ensures breaks { IfOk result (λ answer. (u : ℕ) → (answer ≡ Breaks u) ↔ BreaksFirst (problem_of net.now prefix failed distances.now) labels.now u) }
 {
-    first_break(alloc, net, prefix, &failed, distances, labels)
+    let asked = Asked {
+        net,
+        prefix,
+        failed: &failed,
+        distances,
+    };
+    first_break(alloc, &asked, labels)
 }
