@@ -16,14 +16,14 @@ fn outcomes(entries: &[NetCommunityEntry], row: &Row) -> (bool, bool)
 {
     match entries.split_first() {
         None => (false, true),
-        Some((first, later)) => {
-            let found = outcomes(later, row);
-            match on_values(first.values, row) {
-                Status::No => found,
-                Status::Yes => (first.permit, !first.permit),
-                Status::Maybe => (first.permit || found.0, !first.permit || found.1),
+        Some((first, later)) => match on_values(first.values, row) {
+            Status::No => outcomes(later, row),
+            Status::Yes => (first.permit, !first.permit),
+            Status::Maybe => {
+                let found = outcomes(later, row);
+                (first.permit || found.0, !first.permit || found.1)
             }
-        }
+        },
     }
 }
 

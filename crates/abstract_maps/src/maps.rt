@@ -3,12 +3,12 @@
 ghost use Rattle.std.specs.Prelude.{◌≡◌, ◌<◌, ◌≤◌, ◌+◌, ◌^◌, length};
 ghost use Rattle.concrete_algebra.specs.Maps.{map_entries};
 ghost use Rattle.abstract_route.specs.Rows.{IsInhabited};
-ghost use Rattle.abstract_maps.specs.AbstractMap.{IsShort, abstract_map, map_row, policy_row, sure, sure_by, sure_entries, sure_policy};
+ghost use Rattle.abstract_maps.specs.AbstractMap.{IsShort, abstract_map, map_row, policy_row, sure, sure_entries, sure_policy};
 ghost use Rattle.abstract_maps.specs.OnTheWay.{GrowsBy};
 
-use crate::entries::{by_entry, entry_row, on_entry};
+use crate::entries::{entry_row, on_entry};
 use crate::statuses::Status;
-use abstract_route::{Row, bottom_value, is_inhabited};
+use abstract_route::{Row, bottom_value, is_inhabited, join};
 use concrete_algebra::map_entries;
 use net_types::{Net, NetMapEntry, Policy, Prefix, Router};
 
@@ -29,11 +29,15 @@ pub(crate) fn map_row(
 {
     match entries.split_first() {
         None => bottom_value(),
-        Some((first, later)) => by_entry(
-            on_entry(router, prefix, first, row),
-            entry_row(router, u, first, row),
-            map_row(router, u, prefix, later, row),
-        ),
+        Some((first, later)) => match on_entry(router, prefix, first, row) {
+            Status::No => map_row(router, u, prefix, later, row),
+            Status::Yes => entry_row(router, u, first, row),
+            Status::Maybe => {
+                let here = entry_row(router, u, first, row);
+                let behind = map_row(router, u, prefix, later, row);
+                join(&here, &behind)
+            }
+        },
     }
 }
 
@@ -79,16 +83,7 @@ pub fn run_map_abs(net: &Net, router: u8, policy: Policy, prefix: Prefix, row: &
     abstract_map(net, router, policy, &prefix, row)
 }
 
-fn sure_by(status: Status, permit: bool, later: bool) -> bool
-    ensures { result ≡ sure_by status permit later }
-{
-    match status {
-        Status::No => later,
-        Status::Yes => permit,
-        Status::Maybe => permit && later,
-    }
-}
-
+// Whether a Yes entry permits, and each Maybe entry before it.
 #[tactic(auto, unfolding(crate::specs::AbstractMap::sure_entries))]
 pub(crate) fn sure_entries(
     router: &Router,
@@ -100,11 +95,11 @@ pub(crate) fn sure_entries(
 {
     match entries.split_first() {
         None => false,
-        Some((first, later)) => sure_by(
-            on_entry(router, prefix, first, row),
-            first.permit,
-            sure_entries(router, prefix, later, row),
-        ),
+        Some((first, later)) => match on_entry(router, prefix, first, row) {
+            Status::No => sure_entries(router, prefix, later, row),
+            Status::Yes => first.permit,
+            Status::Maybe => first.permit && sure_entries(router, prefix, later, row),
+        },
     }
 }
 

@@ -2,10 +2,11 @@
 
 ghost use Rattle.std.specs.Prelude.{◌≡◌, ◌<◌, ◌≤◌, ◌+◌, ◌^◌};
 ghost use Rattle.std.specs.Int.{bit_not, w64};
+ghost use Rattle.concrete_algebra.specs.Maps.{without_deleted};
 ghost use Rattle.abstract_maps.specs.RowSets.{lacked_after, lengthened, replaced, replaced_origin, row_under_sets, with_deleted, with_router};
 
 use abstract_route::{Range, Row};
-use concrete_algebra::{community_entries, deleted_by, with_set, without_deleted};
+use concrete_algebra::{community_entries, deleted_by, with_set};
 use net_types::{Bits64, NetSetCommunity, NetSets, Origin, Router};
 
 fn replaced(number: Option<u32>, range: Range) -> Range
@@ -35,13 +36,17 @@ fn replaced_origin(origin: Option<Origin>, range: Range) -> Range
     }
 }
 
-// The communities that may be lacked where a list's are deleted, if one is named.
-fn with_deleted(router: &Router, position: Option<u32>, lacked: Bits64) -> Bits64
-    ensures { result ≡ with_deleted router.now position lacked }
+// The communities that may be held, and those that may be lacked, where a list's are deleted, if one is named.
+fn after_delete(router: &Router, position: Option<u32>, row: &Row) -> (Bits64, Bits64)
+    ensures held { result.0 ≡ without_deleted router.now position row.now.has }
+    ensures lacked { result.1 ≡ with_deleted router.now position row.now.lacks }
 {
     match position {
-        None => lacked,
-        Some(position) => lacked.union(deleted_by(community_entries(router, position))),
+        None => (row.has, row.lacks),
+        Some(position) => {
+            let deleted = deleted_by(community_entries(router, position));
+            (row.has.minus(deleted), row.lacks.union(deleted))
+        }
     }
 }
 
@@ -93,8 +98,7 @@ pub(crate) fn row_under_sets(router: &Router, u: u8, sets: &NetSets, row: &Row) 
     ensures row { result ≡ row_under_sets router.now u sets.now row.now }
     ensures long { result.length.high ≤ row.now.length.high + 255 }
 {
-    let held = without_deleted(router, sets.delete, row.has);
-    let lacked = with_deleted(router, sets.delete, row.lacks);
+    let (held, lacked) = after_delete(router, sets.delete, row);
     Row {
         weight: replaced(sets.weight, row.weight),
         preference: replaced(sets.preference, row.preference),

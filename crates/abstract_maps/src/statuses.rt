@@ -1,7 +1,7 @@
 //! How a match stands to all routes of a row at once.
 
 ghost use Rattle.std.specs.Prelude.{◌≡◌};
-ghost use Rattle.abstract_maps.specs.Statuses.{both, certain_status, outcome_status, values_status};
+ghost use Rattle.abstract_maps.specs.Statuses.{outcome_status, values_status};
 
 use abstract_route::Row;
 use net_types::Bits64;
@@ -40,24 +40,5 @@ pub(crate) fn of_outcomes(may_permit: bool, may_deny: bool) -> Status
         Status::No
     } else {
         Status::Maybe
-    }
-}
-
-// The status of a match that is the same for all routes.
-pub(crate) fn of_match(matches: bool) -> Status
-    ensures { result ≡ certain_status matches }
-{
-    if matches { Status::Yes } else { Status::No }
-}
-
-// The status of two matches together.
-pub(crate) fn of_both(first: Status, second: Status) -> Status
-    ensures { result ≡ both first second }
-{
-    match (first, second) {
-        (Status::No, _) => Status::No,
-        (Status::Yes, other) => other,
-        (Status::Maybe, Status::No) => Status::No,
-        (Status::Maybe, _) => Status::Maybe,
     }
 }
