@@ -11,3 +11,5 @@ pub mod ExactLemmas
 pub mod OneRouteArcs
 pub mod FreeLemmas
 pub mod KnownLemmas
+pub mod LengthLemmas
+pub mod ArrivalLemmas

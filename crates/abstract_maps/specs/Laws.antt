@@ -1,10 +1,12 @@
 -- What is true of the abstract maps and transfers of every network.
-use Rattle.std.specs.Prelude.{ℕ, ◌≡◌, ◌<◌, ◌≤◌, ◌+◌, ◌^◌, ◌⊎◌, true, false, length, Some, Option, IfSome}
+use Rattle.std.specs.Prelude.{ℕ, ◌≡◌, ◌<◌, ◌≤◌, ◌+◌, ◌*◌, ◌^◌, ◌⊎◌, true, false, List, length, min, Some, Option, IfSome}
 use Rattle.net_types.specs.Routes.{is_on}
 use Rattle.net_types.specs.declared.arcs.Arc.{Arc}
+use Rattle.net_types.specs.declared.network.Link.{Link}
 use Rattle.net_types.specs.declared.network.Policy.{Policy}
+use Rattle.net_types.specs.declared.network.Policy.TheVariants.{Open}
 use Rattle.net_types.specs.declared.routes.Route.{Route}
-use Rattle.net_types.specs.Arcs.{is_session, receiver_of}
+use Rattle.net_types.specs.Arcs.{from_end, is_session, link_of, receiver_of, to_end}
 use Rattle.net_types.specs.NetFacts.{IsNet}
 use Rattle.net_types.specs.NetValue.{NetValue}
 use Rattle.net_types.specs.PrefixValue.{PrefixValue}
@@ -14,6 +16,8 @@ use Rattle.abstract_route.specs.Rows.{IsBelow, IsInhabited, IsRow, bottom}
 use Rattle.concrete_algebra.specs.Carrying.{carry_gives}
 use Rattle.concrete_algebra.specs.LocalRoutes.{local_of}
 use Rattle.concrete_algebra.specs.Maps.{map_gives}
+use Rattle.concrete_algebra.specs.Problem.{problem_of}
+use Rattle.concrete_algebra.specs.Stability.{Arrives, IsStable}
 use Rattle.abstract_maps.specs.AbstractMap.{IsShort, abstract_map, sure}
 use Rattle.abstract_maps.specs.LocalRow.{local_row}
 use Rattle.abstract_maps.specs.Transfer.{free, gives, less, longest, opens, passes, transfer}
@@ -49,19 +53,33 @@ SureGives =
     (net : NetValue) (u : ℕ) (policy : Policy) (prefix : PrefixValue) (row : Row) (route : Route) → IsNet net → u < length net.routers →
     Fits route row → sure net u policy prefix row ≡ true → (given : Route) × (map_gives net u policy prefix route ≡ Some given)
 
--- a route of a row that the arc carries fits the transfer, if its path is no longer than the cut
+-- a route of a row that the arc carries fits the transfer, if its path has at most 21 entries for each router
 abbrev pub TransferIsSound : Type 0
 TransferIsSound =
     (net : NetValue) (prefix : PrefixValue) (arc : Arc) (row : Row) (sent route : Route) → IsNet net → IsRow row →
-    is_session net arc ≡ true → IsIn sent row → carry_gives net prefix arc sent ≡ Some route → length route.path ≤ longest net →
+    is_session net arc ≡ true → IsIn sent row → carry_gives net prefix arc sent ≡ Some route → length route.path ≤ 21 * length net.routers →
     Fits route (transfer net prefix arc row)
 
 -- it is in the row that the arc adds to its receiver's
 abbrev pub GivesIsSound : Type 0
 GivesIsSound =
     (net : NetValue) (prefix : PrefixValue) (arc : Arc) (row : Row) (sent route : Route) → IsNet net → IsRow row →
-    is_session net arc ≡ true → IsIn sent row → carry_gives net prefix arc sent ≡ Some route → length route.path ≤ longest net →
+    is_session net arc ≡ true → IsIn sent row → carry_gives net prefix arc sent ≡ Some route → length route.path ≤ 21 * length net.routers →
     IsIn route (gives net prefix arc row)
+
+-- in a stable labelling no path is too long: what comes over an arc, of a sender's label that is in a row, fits the
+-- transfer, and is in the row that the arc adds to its receiver's
+abbrev pub ArrivalFits : Type 0
+ArrivalFits =
+    (net : NetValue) (prefix : PrefixValue) (failed : List ℕ) (distances : List (Option ℕ)) (labels : List (Option Route)) (u : ℕ) (arc : Arc) (row : Row) (sent route : Route) →
+    IsNet net → IsRow row → IsStable (problem_of net prefix failed distances) labels →
+    Arrives (problem_of net prefix failed distances) labels u arc sent route → IsIn sent row → Fits route (transfer net prefix arc row)
+
+abbrev pub ArrivalIsIn : Type 0
+ArrivalIsIn =
+    (net : NetValue) (prefix : PrefixValue) (failed : List ℕ) (distances : List (Option ℕ)) (labels : List (Option Route)) (u : ℕ) (arc : Arc) (row : Row) (sent route : Route) →
+    IsNet net → IsRow row → IsStable (problem_of net prefix failed distances) labels →
+    Arrives (problem_of net prefix failed distances) labels u arc sent route → IsIn sent row → IsIn route (gives net prefix arc row)
 
 -- the router that the arc goes to is on the route's path
 abbrev pub Meets : NetValue → Arc → Route → Type 0
@@ -145,10 +163,10 @@ abbrev pub TransferIsShort : Type 0
 TransferIsShort =
     (net : NetValue) (prefix : PrefixValue) (arc : Arc) (row : Row) → IsNet net → IsShort (transfer net prefix arc row)
 
--- no longer than the cut
+-- they have at most 21 entries for each router
 abbrev pub TransferIsCut : Type 0
 TransferIsCut =
-    (net : NetValue) (prefix : PrefixValue) (arc : Arc) (row : Row) → IsNet net → (transfer net prefix arc row).length.high ≤ longest net
+    (net : NetValue) (prefix : PrefixValue) (arc : Arc) (row : Row) → IsNet net → (transfer net prefix arc row).length.high ≤ 21 * length net.routers
 
 abbrev pub GivesIsShort : Type 0
 GivesIsShort =
@@ -170,3 +188,33 @@ abbrev pub LocalIsShort : Type 0
 LocalIsShort =
     (net : NetValue) (prefix : PrefixValue) (u : ℕ) (distance : Option ℕ) → IsNet net → u < length net.routers →
     IsShort (local_row net prefix u distance)
+
+-- a policy that leaves some route of a row makes the longest paths no shorter
+abbrev pub MapKeepsLength : Type 0
+MapKeepsLength =
+    (net : NetValue) (u : ℕ) (policy : Policy) (prefix : PrefixValue) (row : Row) →
+    IsInhabited (abstract_map net u policy prefix row) → row.length.high ≤ (abstract_map net u policy prefix row).length.high
+
+-- an arc that leaves some route of a row makes the longest paths longer by one entry at least, up to 21 entries for
+-- each router
+abbrev pub TransferLengthens : Type 0
+TransferLengthens =
+    (net : NetValue) (prefix : PrefixValue) (arc : Arc) (row : Row) →
+    IsInhabited (transfer net prefix arc row) → min (row.length.high + 1) (21 * length net.routers) ≤ (transfer net prefix arc row).length.high
+
+-- and so it is with the row that the arc adds to its receiver's
+abbrev pub GivesLengthens : Type 0
+GivesLengthens =
+    (net : NetValue) (prefix : PrefixValue) (arc : Arc) (row : Row) →
+    IsInhabited (gives net prefix arc row) → min (row.length.high + 1) (21 * length net.routers) ≤ (gives net prefix arc row).length.high
+
+-- over a session that is open at both ends it is one entry, up to as many
+abbrev pub OpenAddsOne : Type 0
+OpenAddsOne =
+    (net : NetValue) (prefix : PrefixValue) (arc : Arc) (link : Link) (row : Row) → link_of net arc ≡ Some link →
+    (from_end arc.down link).export ≡ Open → (to_end arc.down link).import ≡ Open →
+    IsInhabited (gives net prefix arc row) → (gives net prefix arc row).length.high ≡ min (row.length.high + 1) (21 * length net.routers)
+
+-- the cut is a number of 64 bits
+abbrev pub LongestIsSmall : Type 0
+LongestIsSmall = (net : NetValue) → IsNet net → longest net < 2 ^ 64

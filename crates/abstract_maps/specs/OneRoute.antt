@@ -1,7 +1,7 @@
 -- What is true of the row of one route: nothing of it is left open, so that the answers on it are those of
 -- `concrete_algebra` on the route. And of a row with no open community: where a route of it may come over an arc, each
 -- does.
-use Rattle.std.specs.Prelude.{ℕ, ◌≡◌, ◌<◌, ◌≤◌, ◌^◌, true, false, length, IfSome}
+use Rattle.std.specs.Prelude.{ℕ, ◌≡◌, ◌<◌, ◌≤◌, ◌*◌, ◌^◌, true, false, length, IfSome}
 use Rattle.std.specs.Int.{bit_not, w64}
 use Rattle.std.specs.Option.{is_some}
 use Rattle.net_types.specs.Routes.{is_on, sent_med}
@@ -19,7 +19,7 @@ use Rattle.concrete_algebra.specs.Carrying.{carry_gives}
 use Rattle.concrete_algebra.specs.Maps.{map_gives}
 use Rattle.abstract_maps.specs.AbstractMap.{abstract_map, sure}
 use Rattle.abstract_maps.specs.LocalRow.{exact_or_bottom}
-use Rattle.abstract_maps.specs.Transfer.{longest, opens, passes, transfer}
+use Rattle.abstract_maps.specs.Transfer.{opens, passes, transfer}
 
 -- of the row of one route a policy makes the row of what it gives of the route
 abbrev pub MapIsExact : Type 0
@@ -37,11 +37,12 @@ SureIsExact =
 abbrev pub least_row : Route → Row
 least_row route = exact_row (record route { med = sent_med route.source route.med })
 
--- of the row of one route an arc makes the row of what it carries of the route, if its path is no longer than the cut
+-- of the row of one route an arc makes the row of what it carries of the route, if its path has at most 21 entries for
+-- each router
 abbrev pub TransferIsExact : Type 0
 TransferIsExact =
     (net : NetValue) (prefix : PrefixValue) (arc : Arc) (route : Route) → IsNet net → IsRow (least_row route) → is_session net arc ≡ true →
-    IfSome (carry_gives net prefix arc route) (λ carried. length carried.path ≤ longest net) →
+    IfSome (carry_gives net prefix arc route) (λ carried. length carried.path ≤ 21 * length net.routers) →
     transfer net prefix arc (least_row route) ≡ exact_or_bottom (carry_gives net prefix arc route)
 
 -- the router that the arc goes to is not on the route's path

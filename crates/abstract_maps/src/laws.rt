@@ -1,7 +1,7 @@
 //! What is true of the abstract maps and transfers of every network: each law is the contract of a function that
 //! does nothing.
 
-ghost use Rattle.abstract_maps.specs.Laws.{ClosedIsBottom, FreeIsNoneOrInhabited, FreeIsTransfer, GivesGrows, GivesIsNoneOrInhabited, GivesIsRow, GivesIsShort, GivesIsSound, LocalIsExact, LocalIsRow, LocalIsShort, MapGrows, MapIsNoneOrInhabited, MapIsSound, MapLengthens, OpenGrows, PassesIsOpen, PassingIsSure, SureGives, TransferGrows, TransferIsCut, TransferIsNoneOrInhabited, TransferIsRow, TransferIsShort, TransferIsSound};
+ghost use Rattle.abstract_maps.specs.Laws.{ArrivalFits, ArrivalIsIn, ClosedIsBottom, FreeIsNoneOrInhabited, FreeIsTransfer, GivesGrows, GivesIsNoneOrInhabited, GivesIsRow, GivesIsShort, GivesIsSound, GivesLengthens, LocalIsExact, LocalIsRow, LocalIsShort, LongestIsSmall, MapGrows, MapIsNoneOrInhabited, MapIsSound, MapKeepsLength, MapLengthens, OpenAddsOne, OpenGrows, PassesIsOpen, PassingIsSure, SureGives, TransferGrows, TransferIsCut, TransferIsNoneOrInhabited, TransferIsRow, TransferIsShort, TransferIsSound, TransferLengthens};
 ghost use Rattle.abstract_maps.specs.OneRoute.{MapIsExact, OpenIsExact, OpenIsPasses, PassesIsExact, SureIsExact, TransferIsExact};
 
 /// What a policy gives of a route of a row is a route of what it makes of the row, and a policy that is sure of a
@@ -15,10 +15,12 @@ pub fn law_of_maps()
 {}
 
 /// What an arc carries of a route of a row is a route of what it makes of the row, if its path has at most 21 entries
-/// for each router of the network.
+/// for each router of the network; and so has every path that comes over an arc in a stable labelling.
 pub fn law_of_soundness()
     ensures transfer { TransferIsSound }
     ensures gives { GivesIsSound }
+    ensures arrival { ArrivalFits }
+    ensures arrival_in { ArrivalIsIn }
 {}
 
 /// Where an arc passes a row, each route of the row comes over it, but for one whose path its receiver is on.
@@ -69,4 +71,15 @@ pub fn law_of_one_route()
     ensures passes { PassesIsExact }
     ensures open { OpenIsExact }
     ensures known { OpenIsPasses }
+{}
+
+/// Where a policy leaves some route of a row, the longest paths are no shorter; where an arc does, they are longer by an
+/// entry at least, up to 21 entries for each router, and so are those that it gives; by one where both ends are open.
+/// That bound is a word of 64 bits.
+pub fn law_of_lengthening()
+    ensures map { MapKeepsLength }
+    ensures transfer { TransferLengthens }
+    ensures gives { GivesLengthens }
+    ensures open { OpenAddsOne }
+    ensures cut { LongestIsSmall }
 {}

@@ -22,8 +22,8 @@ mod statuses;
 mod transfers;
 
 pub use laws::{
-    law_of_growth, law_of_local_rows, law_of_maps, law_of_one_route, law_of_open_arcs,
-    law_of_passing, law_of_rows, law_of_soundness,
+    law_of_growth, law_of_lengthening, law_of_local_rows, law_of_maps, law_of_one_route,
+    law_of_open_arcs, law_of_passing, law_of_rows, law_of_soundness,
 };
 pub use local_rows::local_row;
 pub use maps::{run_map_abs, sure};

@@ -66,7 +66,7 @@ passes_all path must = ((λ p x h. sym (has-routers_of path x) ∙ p.members x h
 
 -- ---- all numbers below 64
 
-has_full : (x : ℕ) → x < 64 → has 18446744073709551615 x ≡ true
+pub has_full : (x : ℕ) → x < 64 → has 18446744073709551615 x ≡ true
 has_full x low = let e = bit_at_ones 64 x low in grind (arith, nat_tests)
 
 full_below : (x : ℕ) → has 18446744073709551615 x ≡ true → x < 64
