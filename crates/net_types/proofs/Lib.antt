@@ -11,3 +11,4 @@ pub mod NetLemmas
 pub mod WordLemmas
 pub mod NumberLemmas
 pub mod TextLemmas
+pub mod SearchLemmas

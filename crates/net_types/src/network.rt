@@ -1,6 +1,6 @@
 //! The network of a bundle: its routers, its links, and what they run.
 
-ghost use Rattle.std.specs.Prelude.{◌≡◌, ◌<◌, IfSome, length};
+ghost use Rattle.std.specs.Prelude.{ℕ, ◌≡◌, ◌<◌, AllPairs, IfSome, length};
 ghost use Rattle.std.specs.Option.{option_copied};
 ghost use Rattle.net_types.specs.NetValue.{NetValue};
 ghost use Rattle.net_types.specs.NetFacts.{IsNet};
@@ -285,7 +285,7 @@ impl Net {
         ensures small { IfSome result (λ number. number < 64) }
     {
         self.valid();
-        match community_among(self.communities(), value) {
+        match ascending_place(self.communities(), value) {
             Some(number) => Some(number as u8),
             None => None,
         }
@@ -308,6 +308,18 @@ pub fn community_among(communities: &[u32], value: u32) -> Option<usize>
     ensures within { IfSome result (λ number. number < length communities.now) }
 {
     communities.iter().position(|community| *community == value)
+}
+
+// The place of the value among these, which ascend.
+fn ascending_place(communities: &[u32], value: u32) -> Option<usize>
+    requires { AllPairs (λ (a b : ℕ). a < b) communities.now }
+    ensures number { result ≡ community_among communities.now value }
+    ensures within { IfSome result (λ number. number < length communities.now) }
+{
+    match communities.binary_search(&value) {
+        Ok(place) => Some(place),
+        Err(_) => None,
+    }
 }
 
 /// Whether the prefix is among those of these entries.
