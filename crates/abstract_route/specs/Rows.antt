@@ -1,5 +1,5 @@
 -- Rows: what is known of the routes that may come to a router, and their order. All of this is the project's own.
-use Rattle.std.specs.Prelude.{ℕ, ◌≡◌, ◌<◌, ◌≤◌, ◌^◌, ◌||◌, ◌&&◌, nat_le, Bool, true, min, max, bit_or, bit_and}
+use Rattle.std.specs.Prelude.{ℕ, ◌≡◌, ◌<◌, ◌≤◌, ◌^◌, ◌||◌, ◌&&◌, nat_le, Bool, true, min, max, bit_or, bit_and, List, slice_index_or}
 use Rattle.net_types.specs.Sets.{has, is_part, IsPart}
 use Rattle.abstract_route.specs.declared.rows.Row.{Row}
 use Rattle.abstract_route.specs.declared.rows.Range.{Range}
@@ -61,6 +61,10 @@ bottom = record {
   may = 0;
   must = 18446744073709551615;
 }
+
+-- a router's row in a list of rows
+abbrev pub row_at : List Row → ℕ → Row
+row_at rows u = slice_index_or rows u bottom
 
 -- each word of the row is a number of 64 bits
 pub record IsRow (r : Row) : Type 0 where

@@ -12,3 +12,5 @@ pub mod WordLemmas
 pub mod NumberLemmas
 pub mod TextLemmas
 pub mod SearchLemmas
+pub mod TestLemmas
+pub mod TurnLemmas

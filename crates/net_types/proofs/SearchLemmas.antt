@@ -33,16 +33,17 @@ nowhere n = let e : nat_lt n n ≡ false = grind (arith, nat_tests) in rw e refl
 pub found_place : (xs : List ℕ) (x i : ℕ) → AllPairs (λ (a b : ℕ). a < b) xs → (i < length xs) × (slice_index_or xs i 0 ≡ x) → Some i ≡ community_among xs x
 found_place xs x i up (inside, is) =
     let p = position_or_len_is (λ (y : ℕ). y == x) xs i 0 (omega arith)
-        (λ k low. other (slice_index_or xs k 0) (slice_index_or xs i 0) x (up k i 0 low inside) is) (λ low. same (slice_index_or xs i 0) x is) in
+    (λ k low. other (slice_index_or xs k 0) (slice_index_or xs i 0) x (up k i 0 low inside) is) (λ low. same (slice_index_or xs i 0) x is) in
     rw (p, placed i (length xs) inside) refl
 
 -- none, where those before some place are less and the others greater
 pub found_none : (xs : List ℕ) (x i : ℕ) → (i ≤ length xs) × ((k : ℕ) → k < i → slice_index_or xs k 0 < x) × ((k : ℕ) → i ≤ k → k < length xs → x < slice_index_or xs k 0) → None ≡ community_among xs x
 found_none xs x i (inside, before, behind) =
     let p = position_or_len_is (λ (y : ℕ). y == x) xs (length xs) 0 (omega arith)
-        (λ k low. elim (below_or_not k i) [ | inl near ↦ less (slice_index_or xs k 0) x (before k near) | inr far ↦ more (slice_index_or xs k 0) x (behind k far low) ]) (λ low. absurd (omega arith)) in
+    (λ k low. elim (below_or_not k i) [ inl near ↦ less (slice_index_or xs k 0) x (before k near) | inr far ↦ more (slice_index_or xs k 0) x (behind k far low) ]) (λ low. absurd (omega arith)) in
     rw (p, nowhere (length xs)) refl where
-  below_or_not : (k i : ℕ) → (k < i) ⊎ (i ≤ k)
-  below_or_not k i = grind arith
-  more : (a x : ℕ) → x < a → (a == x) ≡ false
-  more a x low = grind (arith, nat_tests)
+      below_or_not : (k i : ℕ) → (k < i) ⊎ (i ≤ k)
+      below_or_not k i = grind arith
+
+      more : (a x : ℕ) → x < a → (a == x) ≡ false
+      more a x low = grind (arith, nat_tests)

@@ -21,3 +21,4 @@ pub mod Distance
 pub mod Better
 pub mod ConfigFacts
 pub mod Laws
+pub mod Turns
