@@ -1,0 +1,9 @@
+pub mod RowLists
+pub mod FlowLemmas
+pub mod EquationLemmas
+pub mod LeastLemmas
+pub mod AliveLemmas
+pub mod HeldLemmas
+pub mod IdleLemmas
+pub mod ShortLemmas
+pub mod ClimbLemmas

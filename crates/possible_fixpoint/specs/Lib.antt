@@ -1,0 +1,5 @@
+pub mod Flow
+pub mod Possible
+pub mod Climbing
+pub mod Held
+pub mod Laws
