@@ -17,6 +17,7 @@ mod out_sink;
 mod paths;
 mod shelf;
 mod sink;
+mod steps;
 
 pub use calls::Calls;
 pub use dir_shelf::DirShelf;
@@ -25,3 +26,4 @@ pub use mem_sink::MemSink;
 pub use out_sink::OutSink;
 pub use shelf::{Shelf, ShelfError};
 pub use sink::{Failed, Sink, give_all};
+pub use steps::Steps;
