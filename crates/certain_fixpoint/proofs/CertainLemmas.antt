@@ -153,3 +153,12 @@ certain_set_is round valid u low = (
   (λ e set closed. after_in_closed round set closed (2 ^ 64) u e),
   (λ certain. certain (λ w. has (after round (2 ^ 64)) w) (after_is_closed round valid)),
 )
+
+-- the certain set is a set of routers
+pub certain_inside : (round : Round) (u : ℕ) → has (certain_set round) u ≡ true → u < length round.net.routers
+unfolding certain_set
+certain_inside round u e = after_inside round (2 ^ 64) u e
+
+pub certain_small : (round : Round) → IsNet round.net → certain_set round < 2 ^ 64
+unfolding certain_set
+certain_small round valid = after_small round valid (2 ^ 64)

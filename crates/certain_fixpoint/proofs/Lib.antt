@@ -1,1 +1,2 @@
 pub mod CertainLemmas
+pub mod PassLemmas

@@ -11,6 +11,7 @@ use Rattle.concrete_algebra.specs.LocalRoutes.{local_of}
 use Rattle.concrete_algebra.specs.Problem.{Problem, problem_of}
 use Rattle.abstract_maps.specs.Transfer.{passes}
 use Rattle.abstract_route.specs.Rows.{row_at}
+use Rattle.certain_fixpoint.specs.declared.reading.Reading.{Reading}
 
 -- what a round reads: the case, and the rows
 pub record Round : Type 0 where
@@ -19,6 +20,10 @@ pub record Round : Type 0 where
   pub failed : List ℕ
   pub distances : List (Option ℕ)
   pub rows : List Row
+
+-- the round that is read
+abbrev pub round_read : Reading → Round
+round_read reading = record { net = reading.net.now; prefix = reading.prefix; failed = reading.failed.now; distances = reading.distances.now; rows = reading.rows.now }
 
 abbrev pub problem_at : Round → Problem
 problem_at round = problem_of round.net round.prefix round.failed round.distances

@@ -7,7 +7,13 @@
 //! That each of them holds a route where the rows hold each label, `refine_rounds` says.
 #![tactic(auto)]
 
+mod certain;
+mod reading;
+
 ghost use Rattle.certain_fixpoint.specs.CertainSet.{CertainSetIs};
+
+pub use certain::solve_certain;
+pub use reading::{Reading, row_at};
 
 /// The members of the certain set are exactly the certain routers.
 pub fn law_of_certain_set()
