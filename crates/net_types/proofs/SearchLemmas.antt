@@ -1,6 +1,5 @@
 -- On a list that ascends, a search by halves finds the first place of a value.
-use Rattle.std.proofs.Common.{ℕ, ◌≡◌, ◌<◌, ◌≤◌, ◌==◌, ◌⊎◌, inl, inr, Bool, true, false, List, length, Option, Some, None, AllPairs, cond, nat_lt, slice_index_or, arith, refl, ap}
-use Rattle.std.specs.Prelude.{position}
+use Rattle.std.proofs.Common.{ℕ, ◌≡◌, ◌<◌, ◌≤◌, ◌==◌, ◌⊎◌, inl, inr, true, false, List, length, Some, None, AllPairs, cond, nat_lt, slice_index_or, arith, refl}
 use Rattle.std.proofs.lemmas.Bool.Decides.{nat_tests}
 use Rattle.std.proofs.lemmas.List.Sums.{position_or_len_is}
 use Rattle.net_types.specs.Numbering.{community_among}
