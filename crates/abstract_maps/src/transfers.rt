@@ -1,7 +1,6 @@
 //! What an arc makes of a row: the sender's export, then the receiver's import.
 
-ghost use Rattle.std.specs.Prelude.{◌≡◌, ◌<◌, IfSome, option_map};
-ghost use Rattle.net_types.specs.Arcs.{from_end, link_of, to_end};
+ghost use Rattle.std.specs.Prelude.{◌≡◌, ◌<◌};
 ghost use Rattle.abstract_maps.specs.AbstractMap.{IsShort, sure};
 ghost use Rattle.abstract_maps.specs.OnTheWay.{HasSmallEnds};
 ghost use Rattle.abstract_maps.specs.Transfer.{between, between_free, exported, free, opens, over_link, over_link_free, passes, passes_between, passes_link, received_free, transfer};
@@ -60,38 +59,13 @@ fn passes_between(net: &Net, prefix: &Prefix, from: &End, to: &End, row: &Row) -
         && surely_imported(net, prefix, from, to, row)
 }
 
-// The link of an arc.
-fn link_of(net: &Net, arc: Arc) -> Option<&Link>
-    ensures link { option_map (λ link. link.now) result ≡ link_of net.now arc }
-    ensures ends { IfSome result (λ link. HasSmallEnds link.now) }
-{
-    net.valid();
-    net.links().get(usize::from(arc.link))
-}
-
-fn from_end(down: bool, link: &Link) -> &End
-    requires { HasSmallEnds link.now }
-    ensures end { result.now ≡ from_end down link.now }
-    ensures router { result.now.router < 64 }
-{
-    if down { &link.high } else { &link.low }
-}
-
-fn to_end(down: bool, link: &Link) -> &End
-    requires { HasSmallEnds link.now }
-    ensures end { result.now ≡ to_end down link.now }
-    ensures router { result.now.router < 64 }
-{
-    if down { &link.low } else { &link.high }
-}
-
 fn over_link(net: &Net, prefix: &Prefix, down: bool, link: &Link, row: &Row) -> Row
     requires ends { HasSmallEnds link.now }
     requires short { IsShort row.now }
     ensures { result ≡ over_link net.now prefix.now down row.now link.now }
 {
     if link.session {
-        between(net, prefix, from_end(down, link), to_end(down, link), row)
+        between(net, prefix, link.from_end(down), link.to_end(down), row)
     } else {
         bottom_value()
     }
@@ -103,7 +77,7 @@ fn over_link_free(net: &Net, prefix: &Prefix, down: bool, link: &Link, row: &Row
     ensures { result ≡ over_link_free net.now prefix.now down row.now link.now }
 {
     if link.session {
-        between_free(net, prefix, from_end(down, link), to_end(down, link), row)
+        between_free(net, prefix, link.from_end(down), link.to_end(down), row)
     } else {
         bottom_value()
     }
@@ -114,7 +88,7 @@ fn passes_link(net: &Net, prefix: &Prefix, down: bool, link: &Link, row: &Row) -
     requires short { IsShort row.now }
     ensures { result ≡ passes_link net.now prefix.now down row.now link.now }
 {
-    link.session && passes_between(net, prefix, from_end(down, link), to_end(down, link), row)
+    link.session && passes_between(net, prefix, link.from_end(down), link.to_end(down), row)
 }
 
 #[tactic(auto, unfolding(crate::specs::Transfer::transfer))]
@@ -122,7 +96,7 @@ fn over_arc(net: &Net, prefix: &Prefix, arc: Arc, row: &Row) -> Row
     requires { IsShort row.now }
     ensures { result ≡ transfer net.now prefix.now arc row.now }
 {
-    match link_of(net, arc) {
+    match net.link_of(arc) {
         None => bottom_value(),
         Some(link) => over_link(net, prefix, arc.down, link, row),
     }
@@ -144,7 +118,7 @@ fn free(net: &Net, prefix: Prefix, arc: Arc, row: &Row) -> Row
     requires { IsShort row.now }
     ensures { result ≡ free net.now prefix arc row.now }
 {
-    match link_of(net, arc) {
+    match net.link_of(arc) {
         None => bottom_value(),
         Some(link) => over_link_free(net, &prefix, arc.down, link, row),
     }
@@ -156,7 +130,7 @@ pub fn passes(net: &Net, prefix: Prefix, arc: Arc, row: &Row) -> bool
     requires { IsShort row.now }
     ensures { result ≡ passes net.now prefix arc row.now }
 {
-    match link_of(net, arc) {
+    match net.link_of(arc) {
         None => false,
         Some(link) => passes_link(net, &prefix, arc.down, link, row),
     }
