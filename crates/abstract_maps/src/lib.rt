@@ -6,7 +6,8 @@
 //! maps and communities. No call takes memory.
 //! Promises: each answer is the one of `specs/`, for every network; and the laws, stated in `specs/Laws.antt`, say
 //! that a carried route of a row fits what the arc makes of the row, if its path has at most 21 entries for each
-//! router of the network, that a row which passes is carried, and that what arcs make of rows grows with the rows.
+//! router of the network, as each has in a stable labelling; that a row which passes is carried; that what arcs make
+//! of rows grows with the rows; and that each arc makes the longest paths of a row longer, up to that bound.
 //! On the row of one route nothing is lost (`specs/OneRoute.antt`). Not: that what is left open can happen.
 #![tactic(auto)]
 
