@@ -25,7 +25,8 @@ mod stability;
 
 pub use carrying::{export, holds_value, import, is_kept_home};
 pub use laws::{
-    law_of_chains, law_of_deletes, law_of_entries, law_of_origins, law_of_routes, law_of_routing,
+    law_of_candidates, law_of_chains, law_of_deletes, law_of_entries, law_of_local_routes,
+    law_of_origins, law_of_routes, law_of_routing,
 };
 pub use local_routes::local_route;
 pub use maps::{map_entries, run_map};
