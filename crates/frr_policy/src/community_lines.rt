@@ -9,9 +9,9 @@ ghost use Rattle.frr_policy.specs.Lists.{HasRoom};
 ghost use Rattle.frr_policy.specs.CommunityLines.{list_name_of, communities_of, community_front, community_line, community_entries, community_numbers, added_community_entry, community_list_row};
 
 use crate::LineRefusal;
-use crate::blanks::{Words, is_word};
 use crate::fronts::{Front, take_front, take_name};
-use crate::numbering::{Numbered, new_number};
+use crate::line_words::{Words, is_word};
+use crate::numbering::new_number;
 use crate::values::Name;
 use net_types::{CommunityEntry, CommunityList, List, Text, read_community};
 use std::alloc::{AllocError, Global};
@@ -104,14 +104,6 @@ fn entries_of<'a>(lists: &'a [CommunityList], name: &[u8]) -> &'a [CommunityEntr
         }
     }
     &[]
-}
-
-impl Numbered for CommunityEntry {
-    ghost seq_of = { λ e. e.seq };
-
-    fn seq(&self) -> u32 {
-        self.seq
-    }
 }
 
 // The entry of a line, and the name of its list.

@@ -5,7 +5,7 @@ ghost use Rattle.frr_policy.specs.Values.{name_of, action_of, positive_of};
 ghost use Rattle.frr_policy.specs.Grammar.{first, optional, Took};
 ghost use Rattle.frr_policy.specs.Lists.{front_of};
 
-use crate::blanks::{Words, is_word};
+use crate::line_words::{Words, is_word};
 use crate::values::{Name, action_of, positive_of};
 use std::marker::Model;
 

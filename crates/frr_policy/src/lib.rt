@@ -9,7 +9,6 @@
 //! entry fits its list or map. Not: that the lists and maps that a line names are there.
 #![tactic(auto)]
 
-mod blanks;
 mod community_lines;
 mod copies;
 mod fronts;
@@ -24,11 +23,12 @@ mod prefix_lines;
 mod refusals;
 mod values;
 
-pub use blanks::Words;
 pub use community_lines::read_community_list_line;
 pub use laws::{law_of_numbering, law_of_refusals};
-pub use line_words::words;
+// `words` beside `Words` would be one name twice in a module of their own.
+pub use line_words::{Words, words_of as words};
 pub use map_lines::read_map_line;
 pub use map_steps::MapStep;
+pub use numbering::Numbered;
 pub use prefix_lines::read_prefix_list_line;
 pub use refusals::LineRefusal;

@@ -9,11 +9,11 @@ ghost use Rattle.frr_policy.specs.MapRows.{FitsEntry};
 ghost use Rattle.frr_policy.specs.MapLines.{FitsStep, HasPlace, heading_of, map_entries, new_entry, added_map_entry, begins, map_line};
 ghost use Rattle.frr_policy.specs.MapPlaces.{change_of, effect_of, found_row, by_found};
 
-use crate::blanks::{Words, is_word};
 use crate::fronts::{take_action, take_name};
+use crate::line_words::{Words, is_word};
 use crate::map_places::take_row;
 use crate::map_steps::{MapRow, MapStep, Setting};
-use crate::numbering::{Numbered, if_free};
+use crate::numbering::if_free;
 use crate::values::{Name, map_number_of};
 use crate::{LineRefusal, map_rows};
 use net_types::{List, MapEntry, RouteMap, SetCommunity, Sets};
@@ -68,14 +68,6 @@ fn entries_of<'a>(maps: &'a [RouteMap], name: &[u8]) -> &'a [MapEntry]
         }
     }
     &[]
-}
-
-impl Numbered for MapEntry {
-    ghost seq_of = { λ e. e.seq };
-
-    fn seq(&self) -> u32 {
-        u32::from(self.seq)
-    }
 }
 
 // An entry that matches every route and changes nothing.

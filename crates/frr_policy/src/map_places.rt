@@ -4,7 +4,7 @@ ghost use Rattle.std.specs.Prelude.{◌≡◌, ◌∷◌, [], codes};
 ghost use Rattle.frr_policy.specs.Grammar.{Took};
 ghost use Rattle.frr_policy.specs.MapPlaces.{found_match, found_set, found_row};
 
-use crate::blanks::{Words, is_word};
+use crate::line_words::{Words, is_word};
 use crate::map_steps::{MapRow, Setting};
 
 // Behind `match`.

@@ -9,10 +9,10 @@ ghost use Rattle.frr_policy.specs.Answers.{Answers};
 ghost use Rattle.frr_policy.specs.MapRows.{FitsEntry, match_prefix_list, match_community, set_preference, set_metric, set_weight, set_origin, is_only, set_community_of, replaced_or_added, is_community_set, set_community, if_delete, set_comm_list, asns_of, set_prepend};
 
 use crate::LineRefusal;
-use crate::blanks::{Words, is_word};
 use crate::community_lines::take_communities;
 use crate::copies::copy_of_entry;
 use crate::fronts::take_name;
+use crate::line_words::{Words, is_word};
 use crate::values::{Name, positive_of, u32_of};
 use net_types::{List, MapEntry, Origin, SetCommunity, read_origin};
 use std::alloc::{AllocError, Global};

@@ -6,14 +6,39 @@ ghost use Rattle.frr_policy.specs.Answers.{Answers};
 ghost use Rattle.frr_policy.specs.Lists.{HasRoom, greatest, number_of, if_free, new_number};
 
 use crate::LineRefusal;
+use net_types::{CommunityEntry, MapEntry, PrefixEntry};
 
 /// An entry of a list or a map.
-pub(crate) trait Numbered {
+pub trait Numbered {
     ghost seq_of: { Self → ℕ };
 
     /// The sequence number.
     fn seq(&self) -> u32
         ensures { result ≡ seq_of self.now };
+}
+
+impl Numbered for PrefixEntry {
+    ghost seq_of = { λ e. e.seq };
+
+    fn seq(&self) -> u32 {
+        self.seq
+    }
+}
+
+impl Numbered for CommunityEntry {
+    ghost seq_of = { λ e. e.seq };
+
+    fn seq(&self) -> u32 {
+        self.seq
+    }
+}
+
+impl Numbered for MapEntry {
+    ghost seq_of = { λ e. e.seq };
+
+    fn seq(&self) -> u32 {
+        u32::from(self.seq)
+    }
 }
 
 /// A list or a map has at most so many entries.

@@ -8,9 +8,9 @@ ghost use Rattle.frr_policy.specs.Lists.{HasRoom};
 ghost use Rattle.frr_policy.specs.PrefixLines.{FitsPrefix, lengths, every_prefix, bound_of, bounded_once, bounded_twice, added_prefix_entry, bounds_of, if_fitting, matched_by, matched_of, prefix_line, prefix_entries, prefix_numbers, prefix_list_row};
 
 use crate::LineRefusal;
-use crate::blanks::{Words, is_word};
 use crate::fronts::{Front, take_front, take_name};
-use crate::numbering::{Numbered, new_number};
+use crate::line_words::{Words, is_word};
+use crate::numbering::new_number;
 use crate::values::{length_of, masked_prefix_of};
 use net_types::{Prefix, PrefixEntry, PrefixList, Text};
 use std::alloc::Global;
@@ -171,14 +171,6 @@ fn entries_of<'a>(lists: &'a [PrefixList], name: &[u8]) -> &'a [PrefixEntry]
         }
     }
     &[]
-}
-
-impl Numbered for PrefixEntry {
-    ghost seq_of = { λ e. e.seq };
-
-    fn seq(&self) -> u32 {
-        self.seq
-    }
 }
 
 // The entry of a line, and the name of its list.

@@ -3,7 +3,7 @@
 ghost use Rattle.std.specs.Prelude.{◌≡◌, ◌≤◌, IfOk, IfSome, option_map};
 ghost use Rattle.frr_policy.specs.Values.{name_of, action_of, positive_of, u32_of, map_number_of, list_number_of, length_of, masked_prefix_of};
 
-use crate::blanks::is_word;
+use crate::line_words::is_word;
 use net_types::{Prefix, Text, is_name, read_interface, read_number};
 use std::alloc::{AllocError, Global};
 use std::marker::Model;

@@ -1,5 +1,5 @@
 use Rattle.frr_policy.proofs.WordLemmas.{cut_at_blank, no_blank}
-use Rattle.frr_policy.proofs.blanks.cut_at_blank.Goals as goal
+use Rattle.frr_policy.proofs.line_words.cut_at_blank.Goals as goal
 
 pub returns-then-at-line-clause-parts : goal.returns-then-at-line-clause-parts
 returns-then-at-line-clause-parts c = cut_at_blank c.place_of_blank-at.result c.args.line.now c.place_of_blank-at.ensures c.if-at-line.true
