@@ -1,9 +1,9 @@
 -- What the candidates of a router say of its label: the way to the answer whether a labelling breaks there. No public
 -- clause cites these words.
-use Rattle.std.specs.Prelude.{ℕ, ◌≡◌, ◌<◌, ◌↔◌, ◌&&◌, ◌||◌, Bool, true, false, not, IsTrue, List, Option, Some, None, IsSomeAnd, option_and_then, if◌then◌else◌}
+use Rattle.std.specs.Prelude.{ℕ, ◌≡◌, ◌<◌, ◌↔◌, ◌&&◌, ◌||◌, Bool, true, not, IsTrue, List, Option, Some, None, IsSomeAnd, option_and_then, if◌then◌else◌}
 use Rattle.net_types.specs.declared.arcs.Arc.{Arc}
 use Rattle.net_types.specs.declared.routes.Route.{Route}
-use Rattle.net_types.specs.Arcs.{is_up, receiver_of, sender_of}
+use Rattle.net_types.specs.Arcs.{down_of, is_up, receiver_of, sender_of, up_of}
 use Rattle.net_types.specs.Better.{is_better, same_router}
 use Rattle.net_types.specs.Distance.{distance_at}
 use Rattle.net_types.specs.NetValue.{NetValue}
@@ -69,8 +69,8 @@ pub record LinkSays (net : NetValue) (prefix : PrefixValue) (failed : List ℕ) 
     (findings : Findings) : Type 0 where
   pub up : Findings
   pub down : Findings
-  pub up_says : Says net (label_at labels u) (arrival net prefix failed labels u (record { link = link; down = false })) up
-  pub down_says : Says net (label_at labels u) (arrival net prefix failed labels u (record { link = link; down = true })) down
+  pub up_says : Says net (label_at labels u) (arrival net prefix failed labels u (up_of link)) up
+  pub down_says : Says net (label_at labels u) (arrival net prefix failed labels u (down_of link)) down
   pub both : findings ≡ either_of up down
 
 -- what all candidates of u say of its label

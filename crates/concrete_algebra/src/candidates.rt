@@ -2,7 +2,6 @@
 
 ghost use Rattle.std.specs.Prelude.{◌≡◌, ◌<◌, ◌^◌, ℕ, IfOk, Some, length};
 ghost use Rattle.std.specs.Option.{option_copied};
-ghost use Rattle.net_types.specs.Arcs.{is_up, receiver_of};
 ghost use Rattle.net_types.specs.Distance.{distance_at};
 ghost use Rattle.concrete_algebra.specs.Findings.{arrival, carried_label, is_into, local_candidate};
 ghost use Rattle.concrete_algebra.specs.Stability.{is_learned, label_at};
@@ -10,8 +9,7 @@ ghost use Rattle.concrete_algebra.specs.Stability.{is_learned, label_at};
 use crate::asked::Asked;
 use crate::carrying::carry;
 use crate::local_routes::local_route;
-use crate::orders::{same_router, sender_of};
-use net_types::{Arc, FailSet, Net, NoMemory, Route, Source};
+use net_types::{Arc, FailSet, Net, NoMemory, Route, Source, distance_at, same_router};
 use std::alloc::Global;
 
 /// The label of a router, where it has one.
@@ -34,33 +32,11 @@ fn is_learned(label: Option<&Route>) -> bool
     }
 }
 
-// The router that an arc goes to.
-fn receiver_of(net: &Net, arc: Arc) -> Option<u8>
-    ensures { result ≡ receiver_of net.now arc }
-{
-    let link = net.links().get(usize::from(arc.link))?;
-    if arc.down {
-        Some(link.low.router)
-    } else {
-        Some(link.high.router)
-    }
-}
-
-// Whether the arc is of a session, and its link has not failed.
-fn is_up(net: &Net, failed: &FailSet, arc: Arc) -> bool
-    ensures { result ≡ is_up net.now failed.now arc }
-{
-    match net.links().get(usize::from(arc.link)) {
-        Some(link) => link.session && !failed.holds(arc.link),
-        None => false,
-    }
-}
-
 // Whether the arc is up, and goes to the router.
 fn is_into(net: &Net, failed: &FailSet, arc: Arc, router: u8) -> bool
     ensures { result ≡ is_into net.now failed.now arc router }
 {
-    is_up(net, failed, arc) && same_router(receiver_of(net, arc), Some(router))
+    net.is_up(failed, arc) && same_router(net.receiver_of(arc), Some(router))
 }
 
 // What the arc carries of its sender's label.
@@ -96,14 +72,7 @@ pub(crate) fn arrival(
     if !is_into(asked.net, asked.failed, arc, router) {
         return Ok(None);
     }
-    carried_label(alloc, asked, arc, labels, sender_of(asked.net, arc))
-}
-
-// The distance of a router, where it has one.
-fn distance_of(distances: &[Option<u64>], router: u8) -> Option<u64>
-    ensures { result ≡ distance_at distances.now router }
-{
-    *distances.get(usize::from(router))?
+    carried_label(alloc, asked, arc, labels, asked.net.sender_of(arc))
 }
 
 /// The candidate of a router that is its local route, where that is one.
@@ -121,6 +90,6 @@ pub(crate) fn local_candidate(
     if !asked.net.owns(router, &asked.prefix) && is_learned(label_at(labels, router)) {
         return Ok(None);
     }
-    let distance = distance_of(asked.distances, router);
+    let distance = distance_at(asked.distances, router);
     local_route(alloc, asked.net, asked.prefix, router, distance)
 }

@@ -1,15 +1,12 @@
 //! What the arcs of sessions carry.
 
 ghost use Rattle.std.specs.Prelude.{◌≡◌, IfOk};
-ghost use Rattle.net_types.specs.Arcs.{from_end, to_end};
 ghost use Rattle.net_types.specs.Routes.{is_on};
 ghost use Rattle.concrete_algebra.specs.Carrying.{carry_gives, end_sends, end_takes, export_gives, holds_value, import_gives, is_kept_home, sent_by};
 
 use crate::maps::run_map;
 use crate::paths::prepended;
-use net_types::{
-    Arc, Bits64, End, Link, NO_ADVERTISE, NO_EXPORT, Net, NoMemory, Prefix, Route, Source,
-};
+use net_types::{Arc, Bits64, Link, NO_ADVERTISE, NO_EXPORT, Net, NoMemory, Prefix, Route, Source};
 use std::alloc::Global;
 
 /// Whether the community of this value is among those held; not so where the network has no such community.
@@ -37,20 +34,6 @@ fn sent_by(alloc: Global, sender: u8, route: Route) -> Result<Route, NoMemory>
     Ok(Route { path, ..route })
 }
 
-// The end of a link that a direction begins at.
-fn from_end(down: bool, link: &Link) -> End
-    ensures { result ≡ from_end down link.now }
-{
-    if down { link.high } else { link.low }
-}
-
-// The end of a link that a direction goes to.
-fn to_end(down: bool, link: &Link) -> End
-    ensures { result ≡ to_end down link.now }
-{
-    if down { link.low } else { link.high }
-}
-
 // What the beginning of a link's direction sends of a route.
 fn end_sends(
     alloc: Global,
@@ -65,7 +48,7 @@ fn end_sends(
     if is_kept_home(net, route.communities) {
         return Ok(None);
     }
-    let end = from_end(down, link);
+    let end = link.from_end(down);
     let mut own = route.copy(alloc)?;
     own.med = route.source.sent_med(route.med);
     match run_map(alloc, net, end.router, end.export, prefix, &own)? {
@@ -92,7 +75,7 @@ fn end_takes(
 ) -> Result<Option<Route>, NoMemory>
     ensures { IfOk result (λ taken. taken ≡ end_takes net.now prefix arc link.now route.now) }
 {
-    let end = to_end(arc.down, link);
+    let end = link.to_end(arc.down);
     if is_on(end.router, route.path.as_slice()) {
         return Ok(None);
     }
@@ -126,7 +109,7 @@ pub fn export(
 ) -> Result<Option<Route>, NoMemory>
     ensures { IfOk result (λ sent. sent ≡ export_gives net.now prefix arc route.now) }
 {
-    match net.links().get(usize::from(arc.link)) {
+    match net.link_of(arc) {
         None => Ok(None),
         Some(link) => end_sends(alloc, net, prefix, arc.down, link, route),
     }
@@ -149,7 +132,7 @@ pub fn import(
 ) -> Result<Option<Route>, NoMemory>
     ensures { IfOk result (λ taken. taken ≡ import_gives net.now prefix arc route.now) }
 {
-    match net.links().get(usize::from(arc.link)) {
+    match net.link_of(arc) {
         None => Ok(None),
         Some(link) => end_takes(alloc, net, prefix, arc, link, route),
     }

@@ -78,8 +78,7 @@ fn link_says(
 ) -> Result<Findings, NoMemory>
     ensures { IfOk result (λ findings. LinkSays asked.now.net.now asked.now.prefix asked.now.failed.now labels.now router link findings) }
 {
-    let up = Arc { link, down: false };
-    let down = Arc { link, down: true };
+    let (up, down) = Arc::both(link);
     let up = arc_says(alloc, asked, labels, router, up)?;
     let down = arc_says(alloc, asked, labels, router, down)?;
     Ok(either(up, down))

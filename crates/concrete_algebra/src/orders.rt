@@ -1,10 +1,9 @@
 //! Which of two routes is better.
 
 ghost use Rattle.std.specs.Prelude.{◌≡◌};
-ghost use Rattle.net_types.specs.Arcs.{sender_of};
-ghost use Rattle.net_types.specs.Better.{is_better, med_step, same_router, source_rank};
+ghost use Rattle.net_types.specs.Better.{is_better, med_step, source_rank};
 
-use net_types::{Arc, Net, Route, Source};
+use net_types::{Net, Route, Source, same_router};
 use std::cmp::Ordering;
 
 // Local comes before learned.
@@ -17,35 +16,13 @@ fn source_rank(source: Source) -> u8
     }
 }
 
-// The router that an arc begins at.
-pub(crate) fn sender_of(net: &Net, arc: Arc) -> Option<u8>
-    ensures { result ≡ sender_of net.now arc }
-{
-    let link = net.links().get(usize::from(arc.link))?;
-    if arc.down {
-        Some(link.high.router)
-    } else {
-        Some(link.low.router)
-    }
-}
-
-// Whether the two are one router.
-pub(crate) fn same_router(a: Option<u8>, b: Option<u8>) -> bool
-    ensures { result ≡ same_router a b }
-{
-    match (a, b) {
-        (Some(u), Some(v)) => u == v,
-        _ => false,
-    }
-}
-
 // By MED, where both routes are learned from one router.
 fn by_med(net: &Net, a: &Route, b: &Route) -> Ordering
     ensures { result ≡ med_step net.now a.now.source b.now.source a.now.med b.now.med }
 {
     match (a.source, b.source) {
         (Source::Learned(over), Source::Learned(other)) => {
-            if same_router(sender_of(net, over), sender_of(net, other)) {
+            if same_router(net.sender_of(over), net.sender_of(other)) {
                 a.med.cmp(&b.med)
             } else {
                 Ordering::Equal
