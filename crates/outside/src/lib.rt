@@ -1,7 +1,7 @@
-//! The outside: where the files come from, and where the reports go.
+//! The outside: where the files come from, where the reports go, and where workers pass.
 //!
 //! Decides: what is known of every shelf of files and of every sink of bytes, and what the ones in
-//! memory answer. A shelf or a sink counts its faults, and may tell what it holds.
+//! memory answer. A shelf or a sink counts its faults, and may tell what it holds. A gate tells nothing.
 //! Stands on: `net_types` alone.
 //! Promises: a call fails only where the count of faults rose in it, what is told is so, the objects in
 //! memory answer exactly, and a sink over a writer tells what the writer tells. Not: that a real folder
@@ -11,6 +11,7 @@
 mod calls;
 mod dir_shelf;
 mod entries;
+mod gate;
 mod mem_shelf;
 mod mem_sink;
 mod out_sink;
@@ -21,6 +22,7 @@ mod steps;
 
 pub use calls::Calls;
 pub use dir_shelf::DirShelf;
+pub use gate::{Gate, OpenGate};
 pub use mem_shelf::MemShelf;
 pub use mem_sink::MemSink;
 pub use out_sink::OutSink;
