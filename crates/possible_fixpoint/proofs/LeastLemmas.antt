@@ -7,7 +7,8 @@ use Rattle.net_types.proofs.TurnLemmas.{turns-zero, turns-suc, settles}
 use Rattle.net_types.specs.Turns.{turns}
 use Rattle.abstract_route.specs.Rows.{row_at}
 use Rattle.possible_fixpoint.proofs.EquationLemmas.{equations_below, equations_grow, equations_rows, fixed_solves, length-bottoms, length-equations, row_at-bottoms}
-use Rattle.possible_fixpoint.proofs.RowLists.{list_rank, list_rank_up, list_rank_even, list_rank_small}
+use Rattle.possible_fixpoint.proofs.RowLists.{list_rank_up, list_rank_even, list_rank_small}
+use Rattle.possible_fixpoint.specs.Standing.{list_rank}
 use Rattle.possible_fixpoint.specs.Flow.{Flow, Lawful}
 use Rattle.possible_fixpoint.specs.Possible.{AreBelow, AreRows, IsLeast, Solves, bottoms, enough, equations, possible}
 

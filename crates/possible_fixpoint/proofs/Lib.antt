@@ -7,3 +7,11 @@ pub mod HeldLemmas
 pub mod IdleLemmas
 pub mod ShortLemmas
 pub mod ClimbLemmas
+pub mod BitLemmas
+pub mod RaiseLemmas
+pub mod JoinLemmas
+pub mod VisitLemmas
+pub mod PassLemmas
+pub mod FeedLemmas
+pub mod BeginLemmas
+pub mod NetLemmas

@@ -1,10 +1,10 @@
 -- Lists of rows: their order, and how far they have grown.
-use Rattle.std.proofs.Common.{ℕ, suc, ◌≡◌, ◌+◌, ◌*◌, ◌^◌, ◌≤◌, List, [], ◌∷◌, length, arith, ◌∙◌, refl}
+use Rattle.std.proofs.Common.{suc, ◌≡◌, ◌*◌, ◌^◌, ◌≤◌, List, [], ◌∷◌, length, arith, ◌∙◌, refl}
 use Rattle.abstract_route.specs.declared.rows.Row.{Row}
-use Rattle.abstract_route.specs.Heights.{row_rank}
 use Rattle.abstract_route.proofs.RowLemmas.{below_refl, below_trans}
 use Rattle.abstract_route.proofs.HeightLemmas.{rank_up, rank_even, rank_small}
 use Rattle.abstract_route.specs.Rows.{row_at}
+use Rattle.possible_fixpoint.specs.Standing.{list_rank}
 use Rattle.possible_fixpoint.specs.Possible.{AreBelow, AreRows}
 
 pub are_below_refl : (xs : List Row) → AreBelow xs xs
@@ -18,11 +18,6 @@ below_tail x y xs ys p = record { long = (let e = p.long in omega arith); each =
 
 rows_tail : (x : Row) (xs : List Row) → AreRows (x ∷ xs) → AreRows xs
 rows_tail x xs p = record { each = λ u h. p.each (suc u) (omega arith) }
-
--- how far all rows have grown
-unfoldable pub list_rank : List Row → ℕ
-list_rank [] = 0
-list_rank (x ∷ xs) = row_rank x + list_rank xs
 
 pub list_rank_up : (xs ys : List Row) → AreBelow xs ys → list_rank xs ≤ list_rank ys
 unfolding list_rank

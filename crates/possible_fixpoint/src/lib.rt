@@ -4,17 +4,25 @@
 //! Decides: the least list of rows in which each router's row is above that of its living local route, and above
 //! what each living arc gives of its sender's row. What an arc gives of a row, `abstract_maps` decides; what is alive,
 //! the caller.
-//! Stands on: `net_types`, `abstract_route`, `concrete_algebra` and `abstract_maps`; of `ospf_paths` its laws.
-//! Promises: the laws of `specs/Laws.antt` say that this list is there and is one, that it falls with what is alive,
-//! and that it holds each label of each stable labelling, as long as all that the labelling holds is alive. Not: that
-//! what is possible can happen.
+//! Stands on: `net_types`, `outside`, `abstract_route`, `concrete_algebra` and `abstract_maps`; of `ospf_paths` its laws.
+//! It takes memory for the rows alone.
+//! Promises: `solve_possible` gives that list. The laws of `specs/Laws.antt` say that it is there and is one, that it
+//! falls with what is alive, and that it holds each label of each stable labelling, as long as all that the labelling
+//! holds is alive. Not: that what is possible can happen.
 #![tactic(auto)]
 
 mod alive;
+mod analysis;
+mod feeding;
 mod laws;
+mod marks;
+mod passes;
+mod solving;
+mod visits;
 
 pub use alive::Alive;
 pub use laws::{
     law_of_climbing, law_of_flow, law_of_held_routes, law_of_idle_arcs, law_of_less_alive,
     law_of_possible, law_of_short_rows,
 };
+pub use solving::solve_possible;
