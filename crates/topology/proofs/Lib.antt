@@ -3,6 +3,7 @@ pub mod RisingLemmas
 pub mod OrderLaws
 pub mod PairLemmas
 pub mod MemberLemmas
+pub mod AscendingLemmas
 pub mod PortLemmas
 pub mod SetLemmas
 pub mod ResolveLemmas
@@ -14,6 +15,8 @@ pub mod NoticeLemmas
 pub mod NetLemmas
 pub mod SessionLemmas
 pub mod IdleLemmas
+pub mod AddressLemmas
+pub mod TableLemmas
 pub mod TwinLemmas
 pub mod MeaningLemmas
 pub mod WholeLemmas

@@ -31,7 +31,7 @@ use Rattle.topology.specs.Network.{Answers, unless, net_of}
 use Rattle.topology.specs.Meaning.{AreLinked, IsLinkOf, RunsOspfAt, IsLeastCost, AreOwned, IsRouterOf, IsNetworkOf, SessionsHaveAsns}
 use Rattle.topology.proofs.MapLemmas.{list_any-map, put-there, put-new}
 use Rattle.topology.proofs.RisingLemmas.{AllByRecursion-weaker, All-filter_map, All-map, every}
-use Rattle.topology.proofs.OrderLaws.{prefix_order, text_order, number_order, number-equal}
+use Rattle.topology.proofs.OrderLaws.{prefix_order, text_order, number_order, number-equal, same_prefix-equal}
 use Rattle.topology.proofs.LinkLemmas.{subnets-links_of, subnet-link_of}
 use Rattle.topology.proofs.RouterLemmas.{router-at}
 use Rattle.topology.proofs.SideLemmas.{at-place}
@@ -41,17 +41,6 @@ use Rattle.topology.proofs.NetLemmas.{configs-are}
 use Rattle.topology.proofs.IdleLemmas.{AreNotices-notices}
 use Rattle.topology.proofs.TwinLemmas.{same_text-equal}
 use Rattle.topology.proofs.MemberLemmas.{In, Contains-from_In, In-from_Contains, In-map, In-filter, from-filter, In-filter_map, In-ascending, In-there, any-from, from-map, IsAscending-ascending}
-
-pub same_prefix-equal : (p q : PrefixValue) → same_prefix p q ≡ true → p ≡ q
-same_prefix-equal p q h =
-    let bits : p.bits ≡ q.bits = both-bits p.bits p.len q.bits q.len h in
-    let len : p.len ≡ q.len = both-len p.bits p.len q.bits q.len h in
-    λ i. record { bits = bits i; len = len i } where
-      both-bits : (a b c d : ℕ) → ((a == c) && (b == d)) ≡ true → a ≡ c
-      both-bits a b c d h = grind (arith, nat_tests)
-
-      both-len : (a b c d : ℕ) → ((a == c) && (b == d)) ≡ true → b ≡ d
-      both-len a b c d h = grind (arith, nat_tests)
 
 pub same_prefix-itself : (p : PrefixValue) → same_prefix p p ≡ true
 same_prefix-itself p = same p.bits p.len where

@@ -13,6 +13,8 @@ use Rattle.net_types.specs.NetFacts.{notice_before}
 use Rattle.net_types.specs.declared.network.Notice.{Notice}
 use Rattle.topology.specs.Notices.{same_notice}
 use Rattle.topology.specs.Live.{same_host, host_before}
+use Rattle.net_types.specs.PrefixValue.{PrefixValue}
+use Rattle.topology.specs.Ascending.{IsLinear}
 use Rattle.topology.proofs.RisingLemmas.{IsOrder}
 
 prefix_trans : (a b c d e f : ℕ) → prefix_before (record { bits = a; len = b }) (record { bits = c; len = d }) ≡ true → prefix_before (record { bits = c; len = d }) (record { bits = e; len = f }) ≡ true → prefix_before (record { bits = a; len = b }) (record { bits = e; len = f }) ≡ true
@@ -86,3 +88,48 @@ notice-equal x y h =
 
       second : (a b c d : ℕ) → ((a == c) && (b == d)) ≡ true → b ≡ d
       second a b c d h = grind (arith, nat_tests)
+
+-- each is the order of an ascending list
+prefix_one_way : (a b c d : ℕ) → prefix_before (record { bits = a; len = b }) (record { bits = c; len = d }) ≡ true → prefix_before (record { bits = c; len = d }) (record { bits = a; len = b }) ≡ false
+prefix_one_way a b c d h = grind (arith, nat_tests)
+
+pub same_prefix-equal : (x y : PrefixValue) → same_prefix x y ≡ true → x ≡ y
+same_prefix-equal x y h =
+    let bits : x.bits ≡ y.bits = first x.bits x.len y.bits y.len h in
+    let len : x.len ≡ y.len = second x.bits x.len y.bits y.len h in
+    λ i. record { bits = bits i; len = len i } where
+      first : (a b c d : ℕ) → ((a == c) && (b == d)) ≡ true → a ≡ c
+      first a b c d h = grind (arith, nat_tests)
+
+      second : (a b c d : ℕ) → ((a == c) && (b == d)) ≡ true → b ≡ d
+      second a b c d h = grind (arith, nat_tests)
+
+pub prefix_linear : IsLinear same_prefix prefix_before
+prefix_linear = record {
+  trans = prefix_order.trans;
+  total = prefix_order.total;
+  one_way = λ x y h. prefix_one_way x.bits x.len y.bits y.len h;
+  one = same_prefix-equal;
+}
+
+number_one_way : (x y : ℕ) → nat_lt x y ≡ true → nat_lt y x ≡ false
+number_one_way x y h = grind (arith, nat_tests)
+
+pub number_linear : IsLinear nat_eq nat_lt
+number_linear = record {
+  trans = number_order.trans;
+  total = number_order.total;
+  one_way = λ x y h. number_one_way x y h;
+  one = number-equal;
+}
+
+notice_one_way : (a b c d : ℕ) → notice_before (record { router = a; address = b }) (record { router = c; address = d }) ≡ true → notice_before (record { router = c; address = d }) (record { router = a; address = b }) ≡ false
+notice_one_way a b c d h = grind (arith, nat_tests)
+
+pub notice_linear : IsLinear same_notice notice_before
+notice_linear = record {
+  trans = notice_order.trans;
+  total = notice_order.total;
+  one_way = λ x y h. notice_one_way x.router x.address y.router y.address h;
+  one = notice-equal;
+}

@@ -19,9 +19,9 @@ use Rattle.topology.specs.Communities.{communities}
 use Rattle.topology.specs.Network.{Answers, unless, whole_refusals, net_of}
 use Rattle.topology.specs.Meaning.{IsRefused, IsLeastRefused, NoneRefused, NamesWhole, IsAscending}
 use Rattle.topology.proofs.RisingLemmas.{Rises, Rises-ascending}
-use Rattle.topology.proofs.OrderLaws.{prefix_order}
+use Rattle.topology.proofs.OrderLaws.{prefix_order, same_prefix-equal}
 use Rattle.topology.proofs.MemberLemmas.{In, Contains-from_In, In-from_Contains, In-filter, from-filter, IsAscending-ascending, in-all, from-map}
-use Rattle.topology.proofs.MeaningLemmas.{same_prefix-equal, same_prefix-itself, subnet-in}
+use Rattle.topology.proofs.MeaningLemmas.{same_prefix-itself, subnet-in}
 
 prefix_behind : (p q : PrefixValue) → prefix_before p q ≡ true → prefix_before q p ≡ false
 prefix_behind p q h = go p.bits p.len q.bits q.len h where

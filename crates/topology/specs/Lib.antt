@@ -2,12 +2,16 @@ pub mod Ascending
 pub mod Pairs
 pub mod Live
 pub mod Groups
+pub mod ByPrefix
+pub mod Members
 pub mod Owning
+pub mod OwnedTable
 pub mod Communities
 pub mod Resolving
 pub mod Resolved
 pub mod Sessions
 pub mod Links
+pub mod Addresses
 pub mod Notices
 pub mod Routers
 pub mod Network

@@ -1,11 +1,12 @@
 //! Ascending lists without repeats.
 
-ghost use Rattle.std.specs.Prelude.{◌≡◌, ◌≤◌, OnOk, length};
-ghost use Rattle.std.specs.List.{position_or_len};
-ghost use Rattle.topology.specs.Ascending.{put, is_there};
+ghost use Rattle.std.specs.Prelude.{◌≡◌, IfOk, None};
+ghost use Rattle.std.specs.Ordering.{is_lt};
+ghost use Rattle.topology.specs.Ascending.{IsLinear, ascending, is_last, once_behind};
 
 use net_types::{Notice, Prefix};
-use std::alloc::AllocError;
+use std::alloc::{AllocError, Global};
+use std::cmp::Ordering;
 
 /// What has an order: which two are one, and which comes before the other.
 pub trait Ranked: Copy {
@@ -73,30 +74,49 @@ impl Ranked for Notice {
     }
 }
 
-/// Puts an item at its place among ascending ones, unless it is there.
-pub fn put<T: Ranked>(items: &mut Vec<T>, item: T) -> Result<(), AllocError>
-    ensures { OnOk result (items.new.items ≡ put T.same T.before items.old.items item) }
+// Which of the two comes first.
+fn rank<T: Ranked>(a: &T, b: &T) -> Ordering
+    ensures { is_lt result ≡ T.before a.now b.now }
 {
-    if is_there(items, &item) {
-        return Ok(());
+    if a.comes_before(b) {
+        Ordering::Less
+    } else if b.comes_before(a) {
+        Ordering::Greater
+    } else {
+        Ordering::Equal
     }
-    let place = place(items, &item);
-    items.insert(place, item)?;
-    Ok(())
 }
 
-fn is_there<T: Ranked>(items: &[T], item: &T) -> bool
-    ensures { result ≡ is_there T.same item.now items.now }
+fn is_last<T: Ranked>(last: &Option<T>, item: &T) -> bool
+    ensures { result ≡ is_last T.same last.now item.now }
 {
-    items.iter().any(|other| other.is_one_with(item))
+    match last {
+        Some(last) => last.is_one_with(item),
+        None => false,
+    }
 }
 
-fn place<T: Ranked>(items: &[T], item: &T) -> usize
-    ensures value { result ≡ position_or_len (λ y. T.before item.now y) items.now }
-    ensures within { result ≤ length items.now }
+// The items but each that is one with the one kept before it.
+fn each_once<T: Ranked>(alloc: Global, items: &[T]) -> Result<Vec<T>, AllocError>
+    ensures { IfOk result (λ v. v.items ≡ once_behind T.same None items.now) }
 {
-    items
-        .iter()
-        .take_while(|other| !item.comes_before(other))
-        .count()
+    let mut all = Vec::new(alloc);
+    let mut last = None;
+    for item in items {
+        if !is_last(&last, item) {
+            all.push(*item)?;
+            last = Some(*item);
+        }
+    }
+    Ok(all)
+}
+
+/// The items in ascending order, each once.
+pub fn ascending<T: Ranked>(alloc: Global, items: Vec<T>) -> Result<Vec<T>, AllocError>
+    requires { IsLinear T.same T.before }
+    ensures { IfOk result (λ v. v.items ≡ ascending T.same T.before items.items) }
+{
+    let mut sorted = items;
+    sorted.sort_unstable_by(|a, b| rank(a, b));
+    each_once(alloc, &sorted)
 }

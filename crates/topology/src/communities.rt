@@ -1,9 +1,9 @@
 //! The communities of a bundle, and sets of them by their numbers.
 
 ghost use Rattle.std.specs.Prelude.{◌≡◌, ◌++◌, ◌≤◌, ◌<◌, IfOk, IfSome, OnOk, length, position, flat_map};
-ghost use Rattle.topology.specs.Communities.{set_values, list_values, map_values, config_values, named_values, communities, with_number, with_community, set_of};
+ghost use Rattle.topology.specs.Communities.{set_values, list_values, map_values, config_values, communities, with_number, with_community, set_of};
 
-use crate::ascending::put;
+use crate::ascending::ascending;
 use net_types::{
     Bits64, CommunityEntry, CommunityList, MapEntry, NO_ADVERTISE, NO_EXPORT, RouteMap,
     RouterConfig, SetCommunity, community_among,
@@ -68,27 +68,15 @@ fn push_config(all: &mut Vec<u32>, config: &RouterConfig) -> Result<(), AllocErr
     push_maps(all, config.maps.as_slice())
 }
 
-// What the configurations name.
-fn named_values(alloc: Global, configs: &[RouterConfig]) -> Result<Vec<u32>, AllocError>
-    ensures { IfOk result (λ v. v.items ≡ named_values configs.now) }
-{
-    let mut all = Vec::new(alloc);
-    for config in configs {
-        push_config(&mut all, config)?;
-    }
-    Ok(all)
-}
-
 /// The communities of the configurations, ascending: the two of RFC 1997, and all that they name.
 pub fn communities(alloc: Global, configs: &[RouterConfig]) -> Result<Vec<u32>, AllocError>
     ensures { IfOk result (λ v. v.items ≡ communities configs.now) }
 {
-    let named = named_values(alloc, configs)?;
     let mut all = vec![in alloc; NO_EXPORT, NO_ADVERTISE]?;
-    for value in &named {
-        put(&mut all, *value)?;
+    for config in configs {
+        push_config(&mut all, config)?;
     }
-    Ok(all)
+    ascending(alloc, all)
 }
 
 // The set with one more number.

@@ -1,9 +1,11 @@
 //! The groups of interfaces in one subnet, and the pairs of them that are links.
 
 ghost use Rattle.std.specs.Prelude.{◌≡◌, IfOk};
-ghost use Rattle.topology.specs.Groups.{is_in, group, joined, kind_of, kind_at, subnets_of, shared_subnet, wires};
+ghost use Rattle.topology.specs.Groups.{joined, kind_at, subnets_of, shared_subnet, wires};
+ghost use Rattle.topology.specs.Members.{with_member, kind_of_members};
 
-use crate::ascending::put;
+use crate::ascending::ascending;
+use crate::grouped::GroupedPorts;
 use crate::interfaces::Port;
 use net_types::Prefix;
 use std::alloc::{AllocError, Global};
@@ -19,6 +21,17 @@ pub enum Group {
     Shared,
 }
 
+/// The members of a group, as far as what they make needs them.
+#[derive(Clone, Copy, Debug)]
+pub enum Members {
+    /// One interface.
+    One(Port),
+    /// Two interfaces, in their order.
+    Two(Port, Port),
+    /// More than two.
+    More,
+}
+
 /// The two interfaces of a link.
 #[derive(Clone, Copy, Debug)]
 pub struct Wire {
@@ -31,16 +44,16 @@ pub struct Wire {
 }
 
 /// The subnets of the interfaces that can be ends of links, ascending.
-pub fn subnets(alloc: Global, ports: &[Port]) -> Result<Vec<Prefix>, AllocError>
+pub fn subnets(alloc: Global, ports: &GroupedPorts) -> Result<Vec<Prefix>, AllocError>
     ensures { IfOk result (λ v. v.items ≡ subnets_of ports.now) }
 {
     let mut all = Vec::new(alloc);
-    for port in ports {
+    for port in ports.as_slice() {
         if port.can_link() {
-            put(&mut all, port.subnet)?;
+            all.push(port.subnet)?;
         }
     }
-    Ok(all)
+    ascending(alloc, all)
 }
 
 // Two interfaces of one subnet: a link where they are of two routers.
@@ -56,54 +69,53 @@ fn joined(a: Port, b: Port) -> Group
     }
 }
 
-// What the interfaces make.
-fn kind_of(group: &[Port]) -> Group
-    ensures { result ≡ kind_of group.now }
+/// These members and one more.
+pub fn with_member(members: Option<Members>, port: Port) -> Members
+    ensures { result ≡ with_member members port }
 {
-    match group {
-        [_only] => Group::Alone,
-        [a, b] => joined(*a, *b),
+    match members {
+        None => Members::One(port),
+        Some(Members::One(first)) => Members::Two(first, port),
+        Some(_more) => Members::More,
+    }
+}
+
+/// What the members make.
+pub fn kind_of_members(members: Option<Members>) -> Group
+    ensures { result ≡ kind_of_members members }
+{
+    match members {
+        Some(Members::One(_only)) => Group::Alone,
+        Some(Members::Two(a, b)) => joined(a, b),
         _ => Group::Shared,
     }
 }
 
-/// What the interfaces in the subnet make.
-pub fn group_at(alloc: Global, ports: &[Port], subnet: &Prefix) -> Result<Group, AllocError>
-    ensures { IfOk result (λ kind. kind ≡ kind_at ports.now subnet.now) }
-{
-    let group: Vec<Port> = ports
-        .iter()
-        .copied()
-        .filter(|port| port.can_link() && port.subnet.is_same(subnet))
-        .collect(alloc)?;
-    Ok(kind_of(&group))
-}
-
 /// The least subnet whose group is refused.
-pub fn shared_subnet(
-    alloc: Global,
-    ports: &[Port],
-    subnets: &[Prefix],
-) -> Result<Option<Prefix>, AllocError>
+pub fn shared_subnet(ports: &GroupedPorts, subnets: &[Prefix]) -> Option<Prefix>
     requires { subnets.now ≡ subnets_of ports.now }
-    ensures { IfOk result (λ found. found ≡ shared_subnet ports.now) }
+    ensures { result ≡ shared_subnet ports.now }
 {
     for subnet in subnets {
-        if let Group::Shared = group_at(alloc, ports, subnet)? {
-            return Ok(Some(*subnet));
+        if let Group::Shared = ports.group_at(subnet) {
+            return Some(*subnet);
         }
     }
-    Ok(None)
+    None
 }
 
 /// The pairs of interfaces that are links, in the order of their subnets.
-pub fn wires(alloc: Global, ports: &[Port], subnets: &[Prefix]) -> Result<Vec<Wire>, AllocError>
+pub fn wires(
+    alloc: Global,
+    ports: &GroupedPorts,
+    subnets: &[Prefix],
+) -> Result<Vec<Wire>, AllocError>
     requires { subnets.now ≡ subnets_of ports.now }
     ensures { IfOk result (λ v. v.items ≡ wires ports.now) }
 {
     let mut all = Vec::new(alloc);
     for subnet in subnets {
-        if let Group::Joined(low, high) = group_at(alloc, ports, subnet)? {
+        if let Group::Joined(low, high) = ports.group_at(subnet) {
             all.push(Wire {
                 subnet: *subnet,
                 low,

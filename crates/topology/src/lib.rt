@@ -8,8 +8,11 @@
 //! Not: what any policy does with a route.
 #![tactic(auto)]
 
+mod addresses;
 mod ascending;
+mod by_prefix;
 mod communities;
+mod grouped;
 mod groups;
 mod interfaces;
 mod links;

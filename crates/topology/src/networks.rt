@@ -8,8 +8,9 @@ ghost use Rattle.topology.specs.Meaning.{IsNetworkOf, NamesLeastPair, NamesWhole
 ghost use Rattle.topology.specs.Network.{Answers, unless, whole_refusals, asn_pair, net_from, net_of, network_of};
 
 use crate::communities::communities;
+use crate::grouped::GroupedPorts;
 use crate::groups::{Wire, shared_subnet, subnets, wires};
-use crate::interfaces::{Port, ports};
+use crate::interfaces::ports;
 use crate::links::links;
 use crate::notices::notices;
 use crate::order::in_order;
@@ -40,7 +41,7 @@ pub fn build(alloc: Global, configs: &[RouterConfig]) -> Result<Net, NetRefusal>
     if let Some((i, j)) = asn_pair(configs) {
         return Err(NetRefusal::SameAs(i as u64, j as u64));
     }
-    if let Some((i, j)) = address_pair(configs) {
+    if let Some((i, j)) = address_pair(alloc, configs)? {
         return Err(NetRefusal::SameAddress(i as u64, j as u64));
     }
     whole(alloc, configs)
@@ -53,9 +54,9 @@ fn whole(alloc: Global, configs: &[RouterConfig]) -> Result<Net, NetRefusal>
     ensures { Answers (unless (whole_refusals configs.now) (net_of configs.now)) result }
 {
     let in_order = in_order(alloc, configs)?;
-    let ports = ports(alloc, &in_order)?;
+    let ports = GroupedPorts::of(alloc, ports(alloc, &in_order)?)?;
     let subnets = subnets(alloc, &ports)?;
-    if let Some(subnet) = shared_subnet(alloc, &ports, &subnets)? {
+    if let Some(subnet) = shared_subnet(&ports, &subnets) {
         return Err(NetRefusal::SharedSubnet(subnet));
     }
     let wires = wires(alloc, &ports, &subnets)?;
@@ -76,7 +77,7 @@ fn whole(alloc: Global, configs: &[RouterConfig]) -> Result<Net, NetRefusal>
 fn assemble(
     alloc: Global,
     configs: &[&RouterConfig],
-    ports: &[Port],
+    ports: &GroupedPorts,
     wires: &[Wire],
     communities: Vec<u32>,
 ) -> Result<Net, AllocError>

@@ -3,7 +3,7 @@
 ghost use Rattle.std.specs.Prelude.{◌≡◌, ◌≤◌, ◌++◌, IfOk, OnOk, length, map};
 ghost use Rattle.topology.specs.Notices.{neighbors_of, is_session_with, makes_session, notices_of, notices_from, notices};
 
-use crate::ascending::put;
+use crate::ascending::ascending;
 use net_types::{Link, Neighbor, Notice, RouterConfig};
 use std::alloc::{AllocError, Global};
 
@@ -80,10 +80,5 @@ pub fn notices(
     requires { length configs.now ≤ 64 }
     ensures { IfOk result (λ v. v.items ≡ notices links.now (map (λ c. c.now) configs.now)) }
 {
-    let lines = lines(alloc, links, configs)?;
-    let mut all = Vec::new(alloc);
-    for notice in &lines {
-        put(&mut all, *notice)?;
-    }
-    Ok(all)
+    ascending(alloc, lines(alloc, links, configs)?)
 }

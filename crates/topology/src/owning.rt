@@ -1,35 +1,40 @@
 //! The stubs of a router, and the prefixes that it owns.
 
-ghost use Rattle.std.specs.Prelude.{◌≡◌, IfOk, Some, map};
-ghost use Rattle.topology.specs.Ascending.{ascending_prefixes};
-ghost use Rattle.topology.specs.Owning.{is_stub, stubs, stub_cost, lesser, least_cost, has_stub, has_network, owned_of, prefixes_of, owned_by, networks_of};
+ghost use Rattle.std.specs.Prelude.{◌≡◌, [], IfOk, OnOk, Some, map, if◌then◌else◌};
+ghost use Rattle.net_types.specs.PrefixValue.{PrefixValue};
+ghost use Rattle.net_types.specs.Prefixes.{same_prefix};
+ghost use Rattle.topology.specs.OwnedTable.{owned_at, with_cost, with_stub, with_network, IsOwnedTable};
+ghost use Rattle.topology.specs.Owning.{is_stub, stubs, stub_cost, lesser, prefixes_of, owned_by, networks_of};
 
-use crate::ascending::put;
-use crate::groups::{Group, group_at};
+use crate::ascending::ascending;
+use crate::by_prefix::{ByPrefix, put_at, value_at};
+use crate::grouped::GroupedPorts;
+use crate::groups::Group;
 use crate::interfaces::Port;
 use net_types::{Owned, Prefix, RouterConfig};
 use std::alloc::{AllocError, Global};
+use std::collections::BTreeMap;
 
 // Whether the interface is a stub.
-fn is_stub(alloc: Global, ports: &[Port], port: &Port) -> Result<bool, AllocError>
-    ensures { IfOk result (λ stub. stub ≡ is_stub ports.now port.now) }
+fn is_stub(ports: &GroupedPorts, port: &Port) -> bool
+    ensures { result ≡ is_stub ports.now port.now }
 {
     if !port.can_link() {
-        return Ok(true);
+        return true;
     }
-    match group_at(alloc, ports, &port.subnet)? {
-        Group::Alone => Ok(true),
-        _other => Ok(false),
+    match ports.group_at(&port.subnet) {
+        Group::Alone => true,
+        _other => false,
     }
 }
 
 /// The stubs of a router.
-pub fn stubs(alloc: Global, ports: &[Port], router: usize) -> Result<Vec<Port>, AllocError>
+pub fn stubs(alloc: Global, ports: &GroupedPorts, router: usize) -> Result<Vec<Port>, AllocError>
     ensures { IfOk result (λ v. v.items ≡ stubs ports.now router) }
 {
     let mut all = Vec::new(alloc);
-    for port in ports {
-        if port.router == router && is_stub(alloc, ports, port)? {
+    for port in ports.as_slice() {
+        if port.router == router && is_stub(ports, port) {
             all.push(*port)?;
         }
     }
@@ -52,51 +57,93 @@ fn lesser(least: Option<u32>, cost: u32) -> u32
     }
 }
 
-// The least cost of the stubs of the prefix that run OSPF.
-fn least_cost(stubs: &[Port], prefix: &Prefix) -> Option<u32>
-    ensures { result ≡ least_cost stubs.now prefix.now }
+// The least cost with that of one more stub, where it runs OSPF.
+fn with_cost(least: Option<u32>, port: &Port) -> Option<u32>
+    ensures { result ≡ with_cost least port.now }
 {
-    let mut least = None;
+    if port.ospf {
+        Some(lesser(least, stub_cost(port)))
+    } else {
+        least
+    }
+}
+
+// The entry of a prefix.
+fn owned_at(table: &ByPrefix<Owned>, prefix: &Prefix) -> Owned
+    ensures { result ≡ owned_at table.now prefix.now }
+{
+    match value_at(table, prefix) {
+        Some(owned) => owned,
+        None => Owned {
+            prefix: *prefix,
+            network: false,
+            stub: false,
+            ospf_cost: None,
+        },
+    }
+}
+
+// Adds a stub to the entry of its prefix.
+fn add_stub(table: &mut ByPrefix<Owned>, port: &Port) -> Result<(), AllocError>
+    ensures { OnOk result ((q : PrefixValue) → owned_at table.new q ≡ (if same_prefix port.now.subnet q then with_stub (owned_at table.old q) port.now else owned_at table.old q)) }
+{
+    let owned = owned_at(table, &port.subnet);
+    let with_stub = Owned {
+        prefix: owned.prefix,
+        network: owned.network,
+        stub: true,
+        ospf_cost: with_cost(owned.ospf_cost, port),
+    };
+    put_at(table, &port.subnet, with_stub)
+}
+
+// Adds a `network` line to the entry of its prefix.
+fn add_network(table: &mut ByPrefix<Owned>, network: &Prefix) -> Result<(), AllocError>
+    ensures { OnOk result ((q : PrefixValue) → owned_at table.new q ≡ (if same_prefix network.now q then with_network (owned_at table.old q) else owned_at table.old q)) }
+{
+    let owned = owned_at(table, network);
+    let with_network = Owned {
+        prefix: owned.prefix,
+        network: true,
+        stub: owned.stub,
+        ospf_cost: owned.ospf_cost,
+    };
+    put_at(table, network, with_network)
+}
+
+// What the stubs make owned.
+fn stub_table(alloc: Global, stubs: &[Port]) -> Result<ByPrefix<Owned>, AllocError>
+    ensures { IfOk result (λ table. IsOwnedTable stubs.now [] table) }
+{
+    let mut table = BTreeMap::new(alloc);
     for port in stubs {
-        if port.ospf && port.subnet.is_same(prefix) {
-            least = Some(lesser(least, stub_cost(port)));
-        }
+        add_stub(&mut table, port)?;
     }
-    least
+    Ok(table)
 }
 
-// Whether the prefix is that of one of the stubs.
-fn has_stub(stubs: &[Port], prefix: &Prefix) -> bool
-    ensures { result ≡ has_stub stubs.now prefix.now }
+// What the stubs and the `network` lines make owned.
+fn owned_table(
+    alloc: Global,
+    stubs: &[Port],
+    networks: &[Prefix],
+) -> Result<ByPrefix<Owned>, AllocError>
+    ensures { IfOk result (λ table. IsOwnedTable stubs.now networks.now table) }
 {
-    stubs.iter().any(|port| port.subnet.is_same(prefix))
-}
-
-// Whether the prefix stands in one of the `network` lines.
-fn has_network(networks: &[Prefix], prefix: &Prefix) -> bool
-    ensures { result ≡ has_network networks.now prefix.now }
-{
-    networks.iter().any(|network| network.is_same(prefix))
-}
-
-fn owned_of(stubs: &[Port], networks: &[Prefix], prefix: &Prefix) -> Owned
-    ensures { result ≡ owned_of stubs.now networks.now prefix.now }
-{
-    Owned {
-        prefix: *prefix,
-        network: has_network(networks, prefix),
-        stub: has_stub(stubs, prefix),
-        ospf_cost: least_cost(stubs, prefix),
+    let mut table = stub_table(alloc, stubs)?;
+    for network in networks {
+        add_network(&mut table, network)?;
     }
+    Ok(table)
 }
 
-// The prefixes of the stubs, ascending.
+// The prefixes of the stubs, as they stand.
 fn stub_prefixes(alloc: Global, stubs: &[Port]) -> Result<Vec<Prefix>, AllocError>
-    ensures { IfOk result (λ v. v.items ≡ ascending_prefixes (map (λ port. port.subnet) stubs.now)) }
+    ensures { IfOk result (λ v. v.items ≡ map (λ port. port.subnet) stubs.now) }
 {
     let mut all = Vec::new(alloc);
     for port in stubs {
-        put(&mut all, port.subnet)?;
+        all.push(port.subnet)?;
     }
     Ok(all)
 }
@@ -110,10 +157,8 @@ fn prefixes_of(
     ensures { IfOk result (λ v. v.items ≡ prefixes_of stubs.now networks.now) }
 {
     let mut all = stub_prefixes(alloc, stubs)?;
-    for network in networks {
-        put(&mut all, *network)?;
-    }
-    Ok(all)
+    all.extend_from_slice(networks)?;
+    ascending(alloc, all)
 }
 
 /// What a router with these stubs and `network` lines owns.
@@ -124,10 +169,11 @@ pub fn owned_by(
 ) -> Result<Vec<Owned>, AllocError>
     ensures { IfOk result (λ v. v.items ≡ owned_by stubs.now networks.now) }
 {
+    let table = owned_table(alloc, stubs, networks)?;
     let prefixes = prefixes_of(alloc, stubs, networks)?;
     let mut all = Vec::new(alloc);
     for prefix in &prefixes {
-        all.push(owned_of(stubs, networks, prefix))?;
+        all.push(owned_at(&table, prefix))?;
     }
     Ok(all)
 }

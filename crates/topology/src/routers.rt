@@ -4,7 +4,7 @@ ghost use Rattle.std.specs.Prelude.{◌≡◌, ◌≤◌, All, IfOk, length, map
 ghost use Rattle.net_types.specs.ConfigFacts.{IsConfig};
 ghost use Rattle.topology.specs.Routers.{router_of, routers_from};
 
-use crate::interfaces::Port;
+use crate::grouped::GroupedPorts;
 use crate::owning::{networks_of, owned_by, stubs};
 use crate::resolving::{net_community_lists, net_maps, prefix_lists};
 use crate::sessions::{asn_of, connected_of, ospf_of};
@@ -14,7 +14,7 @@ use std::alloc::{AllocError, Global};
 // The router of this number and configuration.
 fn router_of(
     alloc: Global,
-    ports: &[Port],
+    ports: &GroupedPorts,
     communities: &[u32],
     number: usize,
     config: &RouterConfig,
@@ -47,7 +47,7 @@ fn router_of(
 /// The routers of these configurations.
 pub fn routers(
     alloc: Global,
-    ports: &[Port],
+    ports: &GroupedPorts,
     communities: &[u32],
     configs: &[&RouterConfig],
 ) -> Result<Vec<Router>, AllocError>

@@ -1,15 +1,16 @@
 //! The least pairs of configurations that have a host, an AS number or an address in common.
 
-ghost use Rattle.std.specs.Prelude.{◌≡◌, ◌<◌, ◌≤◌, IfSome, false, position, length};
-ghost use Rattle.std.specs.List.{list_any};
-ghost use Rattle.topology.specs.Pairs.{partner, any_pair};
-ghost use Rattle.topology.specs.Live.{same_host, same_number, same_asn, share_address, has_address_twice, meet_at_address};
+ghost use Rattle.std.specs.Prelude.{◌≡◌, ◌<◌, ◌≤◌, IfOk, IfSome, false, position, length};
+ghost use Rattle.topology.specs.Pairs.{partner, least_pair};
+ghost use Rattle.topology.specs.Addresses.{repeats, share_one};
+ghost use Rattle.topology.specs.Live.{same_host, same_number, same_asn};
 ghost use Rattle.topology.specs.Network.{host_pair, asn_pair, address_pair};
 
-use crate::interfaces::link_address;
+use crate::addresses::{Addresses, all_addresses};
 use crate::order::is_same;
 use crate::sessions::asn_of;
-use net_types::{Interface, RouterConfig};
+use net_types::RouterConfig;
+use std::alloc::{AllocError, Global};
 
 // The first of the others that has this configuration's host.
 fn of_host(config: &RouterConfig, others: &[RouterConfig]) -> Option<usize>
@@ -90,75 +91,50 @@ pub fn asn_pair(configs: &[RouterConfig]) -> Option<(usize, usize)>
     None
 }
 
-// Whether the two are live, can be ends of links, and have one address.
-fn share_address(a: &Interface, b: &Interface) -> bool
-    ensures { result ≡ share_address a.now b.now }
-{
-    same_number(link_address(a), link_address(b))
-}
-
-// Whether the interface has an address in common with one of the others.
-fn is_shared(interface: &Interface, others: &[Interface]) -> bool
-    ensures { result ≡ list_any (λ y. share_address interface.now y) others.now }
-{
-    others.iter().any(|other| share_address(interface, other))
-}
-
-// Whether two of the interfaces have one address.
-fn any_shared(interfaces: &[Interface]) -> bool
-    ensures { result ≡ any_pair share_address interfaces.now }
-{
-    for (at, interface) in interfaces.iter().enumerate() {
-        if is_shared(interface, &interfaces[at + 1..]) {
-            return true;
-        }
-    }
-    false
-}
-
-// Whether the two configurations have an address in common.
-fn meet_at_address(a: &RouterConfig, b: &RouterConfig) -> bool
-    ensures { result ≡ meet_at_address a.now b.now }
-{
-    let others = b.interfaces.as_slice();
-    a.interfaces
-        .as_slice()
-        .iter()
-        .any(|interface| is_shared(interface, others))
-}
-
-// The first of the others that has an address in common with this configuration.
-fn at_address(config: &RouterConfig, others: &[RouterConfig]) -> Option<usize>
-    ensures value { result ≡ position (λ y. meet_at_address config.now y) others.now }
+// The first of the others that has one of these addresses.
+fn at_address(here: &Addresses, others: &[Addresses]) -> Option<usize>
+    ensures value { result ≡ position (λ y. share_one here.now y) others.now }
     ensures within { IfSome result (λ at. at < length others.now) }
 {
     others
         .iter()
-        .position(|other| meet_at_address(config, other))
+        .position(|other| here.each.have_one(&other.each))
 }
 
-// How far the first configuration stands that has an address in common with this one; itself comes first.
-fn address_partner(config: &RouterConfig, others: &[RouterConfig]) -> Option<usize>
-    ensures value { result ≡ partner has_address_twice meet_at_address config.now others.now }
+// How far behind these addresses the first others stand that have one in common with them; 0 where one
+// stands twice among these.
+fn address_partner(here: &Addresses, others: &[Addresses]) -> Option<usize>
+    ensures value { result ≡ partner repeats share_one here.now others.now }
     ensures within { IfSome result (λ far. far ≤ length others.now) }
 {
-    if any_shared(config.interfaces.as_slice()) {
+    if here.repeat {
         return Some(0);
     }
-    match at_address(config, others) {
+    match at_address(here, others) {
         Some(between) => Some(between + 1),
         None => None,
     }
 }
 
-/// The least pair of positions, maybe of one configuration twice, of one address.
-pub fn address_pair(configs: &[RouterConfig]) -> Option<(usize, usize)>
-    ensures { result ≡ address_pair configs.now }
+// The least pair of positions, maybe of one twice, of one address.
+fn least_at_address(all: &[Addresses]) -> Option<(usize, usize)>
+    ensures { result ≡ least_pair repeats share_one 0 all.now }
 {
-    for (at, config) in configs.iter().enumerate() {
-        if let Some(far) = address_partner(config, &configs[at + 1..]) {
+    for (at, here) in all.iter().enumerate() {
+        if let Some(far) = address_partner(here, &all[at + 1..]) {
             return Some((at, at + far));
         }
     }
     None
+}
+
+/// The least pair of positions, maybe of one configuration twice, of one address.
+pub fn address_pair(
+    alloc: Global,
+    configs: &[RouterConfig],
+) -> Result<Option<(usize, usize)>, AllocError>
+    ensures { IfOk result (λ pair. pair ≡ address_pair configs.now) }
+{
+    let all = all_addresses(alloc, configs)?;
+    Ok(least_at_address(&all))
 }

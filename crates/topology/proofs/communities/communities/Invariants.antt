@@ -1,7 +1,7 @@
-use Rattle.std.proofs.Common.{◌≡◌, drop, fold, nat_eq, nat_lt}
-use Rattle.topology.specs.Ascending.{put}
-use Rattle.topology.specs.Communities.{communities}
+use Rattle.std.proofs.Common.{◌≡◌, ◌++◌, ◌∷◌, drop}
+use Rattle.topology.specs.Communities.{named_values}
+use Rattle.net_types.specs.NetFacts.{no_export, no_advertise}
 use Rattle.topology.proofs.communities.communities.Given as goal
 
-abbrev pub invariant-loop-value : goal.invariant-loop-value
-invariant-loop-value l = fold (λ done x. put nat_eq nat_lt done x) l.all.items (drop l.value-index l.value-items) ≡ communities l.configs
+abbrev pub invariant-loop-config : goal.invariant-loop-config
+invariant-loop-config l = l.all.items ++ named_values (drop l.config-index l.configs) ≡ no_export ∷ no_advertise ∷ named_values l.configs

@@ -11,9 +11,9 @@ pub returns-in-Some-asn_pair-clause-least_pair : goal.returns-in-Some-asn_pair-c
 returns-in-Some-asn_pair-clause-least_pair c =
     (no-host c.args.configs.now c.host_pair.result c.host_pair.ensures c.in_default.not-Some, named-asn c.args.configs.now c.asn_pair.result c.in-Some-asn_pair.i c.in-Some-asn_pair.j c.asn_pair.ensures c.in-Some-asn_pair.is)
 
-pub returns-in-Some-address_pair-clause-least_pair : goal.returns-in-Some-address_pair-clause-least_pair
-returns-in-Some-address_pair-clause-least_pair c =
-    (no-host c.args.configs.now c.host_pair.result c.host_pair.ensures c.in_default.not-Some, no-asn c.args.configs.now c.asn_pair.result c.asn_pair.ensures c.in_default-asn_pair.not-Some, named-address c.args.configs.now c.address_pair.result c.in-Some-address_pair.i c.in-Some-address_pair.j c.address_pair.ensures c.in-Some-address_pair.is)
+pub returns-in-Some-2-clause-least_pair : goal.returns-in-Some-2-clause-least_pair
+returns-in-Some-2-clause-least_pair c =
+    (no-host c.args.configs.now c.host_pair.result c.host_pair.ensures c.in_default.not-Some, no-asn c.args.configs.now c.asn_pair.result c.asn_pair.ensures c.in_default-asn_pair.not-Some, named-address c.args.configs.now _ c.in-Some-2.i c.in-Some-2.j c.in_ok-i.ensures c.in-Some-2.is)
 
 pub whole-requires-clause-asns : goal.whole-requires-clause-asns
 whole-requires-clause-asns c = none-asn c.args.configs.now c.asn_pair.result c.asn_pair.ensures c.in_default-asn_pair.not-Some
@@ -24,7 +24,7 @@ returns-clause-least_pair c =
     (record {
       hosts = no-host c.args.configs.now c.host_pair.result c.host_pair.ensures c.in_default.not-Some;
       asns = no-asn c.args.configs.now c.asn_pair.result c.asn_pair.ensures c.in_default-asn_pair.not-Some;
-      addresses = no-address c.args.configs.now c.address_pair.result c.address_pair.ensures c.in_default-address_pair.not-Some;
+      addresses = no-address c.args.configs.now _ c.in_ok-i.ensures c.in_default-2.not-Some;
     })
     c.whole.ensures
 

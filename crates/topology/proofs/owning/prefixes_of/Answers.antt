@@ -1,0 +1,5 @@
+use Rattle.topology.proofs.OrderLaws.{prefix_linear}
+use Rattle.topology.proofs.owning.prefixes_of.Goals as goal
+
+pub ascending-requires : goal.ascending-requires
+ascending-requires c = prefix_linear
