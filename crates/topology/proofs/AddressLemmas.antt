@@ -1,29 +1,28 @@
 -- Addresses that are looked for in ascending lists are those that configurations have in common.
-use Rattle.std.proofs.Common.{ℕ, zero, suc, ◌≡◌, ◌+◌, ◌≤◌, ◌<◌, ◌==◌, ◌||◌, ◌⊎◌, inl, inr, ⊎_elim, Bool, true, false, not, cond, nat_eq, nat_lt, List, [], ◌∷◌, map, fold, length, get_or, refl, ap, sym, ◌∙◌, arith, zero-add, Option, Some, None, MatchOption}
+use Rattle.std.proofs.Common.{ℕ, zero, suc, ◌≡◌, ◌+◌, ◌≤◌, ◌<◌, ◌==◌, ◌||◌, ◌⊎◌, ⊎_elim, Bool, true, false, cond, nat_eq, nat_lt, List, [], ◌∷◌, map, fold, length, get_or, refl, ap, sym, ◌∙◌, arith, zero-add, Option, Some, None}
 use Rattle.std.specs.Prelude.{Result, Ok, Err, is_ok}
 use Rattle.std.specs.Option.{option_map}
-use Rattle.std.specs.List.{list_any, position, position_or_len, insert, filter_map, cons_option}
+use Rattle.std.specs.List.{list_any, position, filter_map, cons_option}
 use Rattle.std.specs.List.Sorted.{IsNonDecreasing, IsBinarySearchResult}
 use Rattle.std.specs.Ordering.{nat_cmp}
 use Rattle.std.specs.Result.{MatchResult}
-use Rattle.std.proofs.lemmas.Bool.{false≢true, cases_lt}
+use Rattle.std.proofs.lemmas.Bool.{cases_lt}
 use Rattle.std.proofs.lemmas.Bool.Decides.{nat_tests}
 use Rattle.std.proofs.lemmas.List.{length-map, get_or_default}
 use Rattle.std.proofs.lemmas.List.Elements.{All-from_recursion}
 use Rattle.std.proofs.lemmas.List.Folds.{list_any_at, list_any_none}
 use Rattle.std.proofs.lemmas.List.Sorted.{searched}
 use Rattle.net_types.specs.declared.config.RouterConfig.{RouterConfig}
-use Rattle.net_types.specs.declared.config.Interface.{Interface}
 use Rattle.topology.specs.Ascending.{is_there, put, ascending}
 use Rattle.topology.specs.Pairs.{partner, pair_or, least_pair, any_pair}
-use Rattle.topology.specs.Live.{link_address, same_number, share_address, has_address_twice, meet_at_address}
+use Rattle.topology.specs.Live.{link_address, same_number, has_address_twice, meet_at_address}
 use Rattle.topology.specs.Communities.{ascending_numbers}
 use Rattle.topology.specs.Network.{address_pair}
 use Rattle.topology.specs.Addresses.{link_addresses, addresses_of, have_one, repeats, share_one}
 use Rattle.topology.proofs.OrderLaws.{number_order, number-equal}
 use Rattle.topology.proofs.RisingLemmas.{put_before, insert-place, Rises-ascending, Rises}
 use Rattle.topology.proofs.MapLemmas.{position_or_len-map}
-use Rattle.topology.proofs.MemberLemmas.{In, from-any, any-from, In-ascending, in-all}
+use Rattle.topology.proofs.MemberLemmas.{from-any, any-from, In-ascending}
 use Rattle.topology.proofs.AscendingLemmas.{from-ascending}
 
 -- tests

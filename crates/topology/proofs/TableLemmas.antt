@@ -1,7 +1,7 @@
 -- Tables by prefix: of the members of groups, and of what a router owns.
 use Rattle.std.proofs.Common.{ℕ, zero, suc, ◌≡◌, ◌≤◌, ◌==◌, ◌&&◌, ◌||◌, Bool, true, false, cond, nat_lt, List, [], ◌∷◌, map, fold, length, take, drop, refl, ap, sym, ◌∙◌, arith, Option, Some, None}
 use Rattle.std.specs.Prelude.{unwrap_or}
-use Rattle.std.specs.List.{list_any, filter}
+use Rattle.std.specs.List.{filter}
 use Rattle.std.specs.BTreeMap.{BTreeMap, Updates}
 use Rattle.std.specs.Ordering.{nat_cmp, ordering_then, is_eq}
 use Rattle.std.specs.declared.cmp.Ordering.TheVariants.{Less, Equal, Greater}
@@ -11,8 +11,6 @@ use Rattle.net_types.specs.PrefixValue.{PrefixValue}
 use Rattle.net_types.specs.Prefixes.{same_prefix}
 use Rattle.net_types.specs.declared.network.Owned.{Owned}
 use Rattle.topology.specs.declared.interfaces.Port.{Port}
-use Rattle.topology.specs.declared.groups.Group.{Group}
-use Rattle.topology.specs.declared.groups.Group.TheVariants.{Shared}
 use Rattle.topology.specs.declared.groups.Members.{Members}
 use Rattle.topology.specs.declared.groups.Members.TheVariants.{More}
 use Rattle.topology.specs.Live.{can_link}
@@ -20,7 +18,7 @@ use Rattle.topology.specs.Groups.{group, kind_of, kind_at}
 use Rattle.topology.specs.ByPrefix.{value_at}
 use Rattle.topology.specs.Members.{with_member, members_of, kind_of_members, IsTableOf}
 use Rattle.topology.specs.Owning.{lesser, stub_cost, has_stub, has_network, least_cost, owned_of, prefixes_of, owned_by}
-use Rattle.topology.specs.OwnedTable.{not_owned, owned_at, with_cost, with_stub, with_network, IsOwnedTable}
+use Rattle.topology.specs.OwnedTable.{not_owned, owned_at, with_stub, with_network, IsOwnedTable}
 use Rattle.topology.proofs.OrderLaws.{same_prefix-equal}
 
 -- the order of keys tells prefixes apart

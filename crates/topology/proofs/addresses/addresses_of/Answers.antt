@@ -1,4 +1,4 @@
-use Rattle.std.proofs.Common.{ℕ, ◌≡◌, Bool, List, length, nat_lt, ap, ◌∙◌, arith}
+use Rattle.std.proofs.Common.{◌≡◌, length, nat_lt, ap, ◌∙◌, arith}
 use Rattle.topology.specs.Live.{has_address_twice}
 use Rattle.topology.specs.Communities.{ascending_numbers}
 use Rattle.topology.specs.Addresses.{link_addresses}
