@@ -4,3 +4,4 @@ pub mod Forwarding
 pub mod Meaning
 pub mod Laws
 pub mod QuietLaws
+pub mod Outcomes

@@ -1,6 +1,6 @@
 //! Reads the property file.
 
-ghost use Rattle.std.specs.Prelude.{◌≡◌, ◌∷◌, [], IfOk, IfSome, All, option_map, option_and_then, codes};
+ghost use Rattle.std.specs.Prelude.{◌≡◌, ◌≤◌, ◌∷◌, [], length, IfOk, IfSome, All, option_map, option_and_then, codes};
 ghost use Rattle.std.specs.List.{list_any};
 ghost use Rattle.toml.specs.Data.{as_table};
 ghost use Rattle.toml.specs.View.{table_view, items_view, view};
@@ -175,6 +175,7 @@ fn with_names(properties: List<Property>) -> Result<List<Property>, FormRefusal>
     requires { All IsAsked properties }
     ensures value { result ≡ with_names properties }
     ensures asked { IfOk result (λ book. All IsAsked book) }
+    ensures few { IfOk result (λ book. length book ≤ 64) }
 {
     if let Some(place) = first_repeat(properties.as_slice()) {
         return Err(FormRefusal::SameName(place));
@@ -201,6 +202,7 @@ fn tables_of(top: &Table) -> Option<&[Value]>
 fn book_of_tables(alloc: Global, tables: &[Value]) -> Result<List<Property>, FormRefusal>
     ensures value { Answers (then_form (rows_from property_of 1 (items_view tables.now)) with_names) result }
     ensures asked { IfOk result (λ book. All IsAsked book) }
+    ensures few { IfOk result (λ book. length book ≤ 64) }
 {
     match properties(alloc, tables) {
         Ok(all) => with_names(all),
@@ -212,6 +214,7 @@ fn book_of_tables(alloc: Global, tables: &[Value]) -> Result<List<Property>, For
 fn book_of_top(alloc: Global, top: &Table) -> Result<List<Property>, FormRefusal>
     ensures value { Answers (book_of_top (table_view top.now)) result }
     ensures asked { IfOk result (λ book. All IsAsked book) }
+    ensures few { IfOk result (λ book. length book ≤ 64) }
 {
     match tables_of(top) {
         Some(tables) => book_of_tables(alloc, tables),
@@ -230,6 +233,7 @@ fn book_of_top(alloc: Global, top: &Table) -> Result<List<Property>, FormRefusal
 pub fn read_properties(alloc: Global, text: &[u8]) -> Result<List<Property>, FormRefusal>
     ensures value { Answers (book_of text.now) result }
     ensures asked { IfOk result (λ book. All IsAsked book) }
+    ensures few { IfOk result (λ book. length book ≤ 64) }
 {
     match document(alloc, text) {
         Ok(top) => book_of_top(alloc, &top),

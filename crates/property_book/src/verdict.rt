@@ -1,5 +1,8 @@
 //! What was found of a property in a network.
 
+ghost use Rattle.std.specs.Prelude.{◌≡◌, ◌<◌, ◌≤◌, IfSome, length};
+ghost use Rattle.property_book.specs.Outcomes.{first_missing, is_certified};
+
 use net_types::{FailSet, List};
 
 /// Why a property does not apply to a network, the first that stands.
@@ -48,4 +51,32 @@ pub struct Outcome {
     pub solved: u64,
     /// How many there are.
     pub total: u64,
+}
+
+fn is_certified(verdict: &Verdict) -> bool
+    ensures { result ≡ is_certified verdict.now }
+{
+    matches!(verdict, Verdict::Certified)
+}
+
+// The place of the first verdict that is no certificate.
+fn missing_among(verdicts: &[Verdict]) -> Option<usize>
+    ensures value { result ≡ first_missing verdicts.now }
+    ensures within { IfSome result (λ place. place < length verdicts.now) }
+{
+    verdicts.iter().position(|verdict| !is_certified(verdict))
+}
+
+impl Outcome {
+    /// The place of the first property that is not certified, counted from 0; none where each is.
+    pub fn first_missing(&self) -> Option<u8>
+        requires { length self.now.verdicts ≤ 64 }
+        ensures value { result ≡ first_missing self.now.verdicts }
+        ensures small { IfSome result (λ place. place < 64) }
+    {
+        match missing_among(self.verdicts.as_slice()) {
+            Some(place) => Some(place as u8),
+            None => None,
+        }
+    }
 }
