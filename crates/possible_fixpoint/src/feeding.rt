@@ -1,10 +1,8 @@
 //! The routers that feed each other, whose paths may be as long as the cut in every solution.
 
-ghost use Rattle.std.specs.Prelude.{◌≡◌, ◌<◌, ◌≤◌, ◌+◌, ◌*◌, length, true, false};
-ghost use Rattle.net_types.specs.Sets.{has};
+ghost use Rattle.std.specs.Prelude.{◌≡◌, ◌<◌, ◌≤◌, ◌+◌, ◌*◌, length};
 ghost use Rattle.possible_fixpoint.specs.Climbing.{raised_row};
 ghost use Rattle.possible_fixpoint.specs.Feeding.{AreLiving, AreReceivers, IsGreatestFed};
-ghost use Rattle.possible_fixpoint.specs.Flow.{Flow, Lawful};
 ghost use Rattle.possible_fixpoint.specs.Marks.{number};
 ghost use Rattle.possible_fixpoint.specs.Standing.{Advanced, IsLengthened, Solvable, Stands};
 

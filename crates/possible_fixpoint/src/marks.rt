@@ -1,7 +1,6 @@
 //! What the solver keeps beside the rows.
 
 ghost use Rattle.std.specs.Prelude.{◌≡◌, ◌<◌};
-ghost use Rattle.abstract_route.specs.declared.rows.Row.{Row as RowValue};
 ghost use Rattle.possible_fixpoint.specs.Marks.{IsNoted, has_arc, with_arc};
 
 use abstract_route::{Row, is_inhabited};

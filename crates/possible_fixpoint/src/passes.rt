@@ -1,9 +1,8 @@
 //! Passes over the routers whose row has changed, until there are none.
 
-ghost use Rattle.std.specs.Prelude.{◌≡◌, ◌<◌, ◌≤◌, ℕ, [], IfOk, length};
-ghost use Rattle.possible_fixpoint.specs.Flow.{Flow};
-ghost use Rattle.possible_fixpoint.specs.Possible.{IsLeast, possible};
-ghost use Rattle.possible_fixpoint.specs.Standing.{Advanced, AreFirst, AreSources, Solvable, Stands, Turned, place};
+ghost use Rattle.std.specs.Prelude.{◌≡◌, ◌<◌, ◌≤◌, IfOk};
+ghost use Rattle.possible_fixpoint.specs.Possible.{possible};
+ghost use Rattle.possible_fixpoint.specs.Standing.{AreFirst, AreSources, Solvable, Stands, Turned, place};
 
 use crate::analysis::Analysis;
 use crate::feeding::lengthen;

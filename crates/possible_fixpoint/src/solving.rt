@@ -1,10 +1,10 @@
 //! The possible routes of a network.
 
-ghost use Rattle.std.specs.Prelude.{◌≡◌, ◌<◌, ◌≤◌, IfOk, length};
+ghost use Rattle.std.specs.Prelude.{◌≡◌, ◌<◌, ◌≤◌, IfOk};
 ghost use Rattle.net_types.specs.Distance.{AreDistances};
 ghost use Rattle.abstract_maps.specs.AbstractMap.{IsShort};
 ghost use Rattle.abstract_maps.specs.Transfer.{gives};
-ghost use Rattle.possible_fixpoint.specs.Flow.{Flow, flow_of, is_alive};
+ghost use Rattle.possible_fixpoint.specs.Flow.{flow_of};
 ghost use Rattle.possible_fixpoint.specs.Possible.{possible};
 
 use crate::alive::Alive;

@@ -2,9 +2,7 @@
 
 ghost use Rattle.std.specs.Prelude.{◌≡◌, ◌<◌, ◌≤◌, ◌+◌, ◌*◌, false, length, slice_set, true, if◌then◌else◌};
 ghost use Rattle.abstract_route.specs.Rows.{IsBelow, joined, row_at};
-ghost use Rattle.net_types.specs.Arcs.{down_of, up_of};
 ghost use Rattle.abstract_maps.specs.AbstractMap.{IsShort};
-ghost use Rattle.possible_fixpoint.specs.Flow.{Flow};
 ghost use Rattle.possible_fixpoint.specs.Marks.{Improved, less, number};
 ghost use Rattle.possible_fixpoint.specs.Standing.{Advanced, Solvable, Standing, Stands, Visited};
 
