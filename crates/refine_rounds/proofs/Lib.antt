@@ -1,2 +1,4 @@
 pub mod RoundLemmas
 pub mod StepLemmas
+pub mod ArrivalLemmas
+pub mod ResultLemmas

@@ -168,7 +168,7 @@ step_drops_beaten round alive valid = record {
 
 -- ---- all rounds
 
-after_rounds : (net : NetValue) (prefix : PrefixValue) (failed : List ℕ) (distances : List (Option ℕ)) → IsNet net → (k : ℕ) → AfterRounds net prefix failed distances k (alive_after net prefix failed distances k)
+pub after_rounds : (net : NetValue) (prefix : PrefixValue) (failed : List ℕ) (distances : List (Option ℕ)) → IsNet net → (k : ℕ) → AfterRounds net prefix failed distances k (alive_after net prefix failed distances k)
 unfolding AfterRounds
 after_rounds net prefix failed distances valid zero = turns-zero (λ alive. step (round_of net prefix failed distances alive) alive) all_alive
 after_rounds net prefix failed distances valid (suc k) =
@@ -199,7 +199,7 @@ set_part set drops = part_le (set_of (λ x. has set x && not (drops x)) 64) set 
   ];
 })
 
-step_falls : (round : Round) (alive : Alive) → ((step round alive).up ≤ alive.up) × ((step round alive).down ≤ alive.down) × ((step round alive).locals ≤ alive.locals)
+pub step_falls : (round : Round) (alive : Alive) → ((step round alive).up ≤ alive.up) × ((step round alive).down ≤ alive.down) × ((step round alive).locals ≤ alive.locals)
 unfolding step
 step_falls round alive = (set_part alive.up (λ link. drops_arc round (up_of link)), set_part alive.down (λ link. drops_arc round (down_of link)), set_part alive.locals (drops_local round))
 
@@ -210,16 +210,16 @@ dropped alive = 3 * 2 ^ 64 - (alive.up + alive.down + alive.locals)
 abbrev is_small : Alive → Type 0
 is_small alive = (alive.up < 2 ^ 64) × (alive.down < 2 ^ 64) × (alive.locals < 2 ^ 64)
 
-after_small : (net : NetValue) (prefix : PrefixValue) (failed : List ℕ) (distances : List (Option ℕ)) (k : ℕ) → is_small (alive_after net prefix failed distances k)
+pub after_small : (net : NetValue) (prefix : PrefixValue) (failed : List ℕ) (distances : List (Option ℕ)) (k : ℕ) → is_small (alive_after net prefix failed distances k)
 after_small net prefix failed distances zero = rw (turns-zero (λ alive. step (round_of net prefix failed distances alive) alive) all_alive) (lit< tt, lit< tt, lit< tt)
 after_small net prefix failed distances (suc k) = rw (turns-suc (λ alive. step (round_of net prefix failed distances alive) alive) k all_alive)
     (let f = step_falls (round_of net prefix failed distances (alive_after net prefix failed distances k)) (alive_after net prefix failed distances k) in
     let s = after_small net prefix failed distances k in (omega arith, omega arith, omega arith))
 
-falls : (net : NetValue) (prefix : PrefixValue) (failed : List ℕ) (distances : List (Option ℕ)) (k : ℕ) → ((alive_after net prefix failed distances (suc k)).up ≤ (alive_after net prefix failed distances k).up) × ((alive_after net prefix failed distances (suc k)).down ≤ (alive_after net prefix failed distances k).down) × ((alive_after net prefix failed distances (suc k)).locals ≤ (alive_after net prefix failed distances k).locals)
+pub falls : (net : NetValue) (prefix : PrefixValue) (failed : List ℕ) (distances : List (Option ℕ)) (k : ℕ) → ((alive_after net prefix failed distances (suc k)).up ≤ (alive_after net prefix failed distances k).up) × ((alive_after net prefix failed distances (suc k)).down ≤ (alive_after net prefix failed distances k).down) × ((alive_after net prefix failed distances (suc k)).locals ≤ (alive_after net prefix failed distances k).locals)
 falls net prefix failed distances k = rw (turns-suc (λ alive. step (round_of net prefix failed distances alive) alive) k all_alive) (step_falls (round_of net prefix failed distances (alive_after net prefix failed distances k)) (alive_after net prefix failed distances k))
 
-same_alive : (a b : Alive) → a.up ≡ b.up → a.down ≡ b.down → a.locals ≡ b.locals → a ≡ b
+pub same_alive : (a b : Alive) → a.up ≡ b.up → a.down ≡ b.down → a.locals ≡ b.locals → a ≡ b
 same_alive a b e f g = λ i. record { up = e i; down = f i; locals = g i }
 
 pub last_round_drops_nothing : LastRoundDropsNothing

@@ -1,27 +1,20 @@
 //! Rounds: what surely is not held is dropped, round by round, until nothing more is.
 //!
-//! Decides: the candidates that surely are there, what they beat, and what is alive after the last round.
-//! Stands on: `possible_fixpoint`, `certain_fixpoint`, and the crates below them.
-//! Promises: the laws of `specs/Rounds.antt` and `specs/Steps.antt` say that no stable labelling holds what a round
-//! drops, that the rounds end, and that each label is in the row of its router at the end.
+//! Decides: the candidates that surely are there, what they beat, what is alive after the last round, and with it the
+//! result of a case: a prefix with a set of failed links.
+//! Stands on: `possible_fixpoint`, `certain_fixpoint`, and the crates below them; `outside` for the gate and the counter.
+//! Promises: a result is the one of `specs/Results.antt`, each call makes one tick, and in every stable labelling each
+//! label is in the row of its router and came by what is alive, each certain router holds a route, and what a round
+//! dropped is held nowhere. The laws of `specs/Rounds.antt`, `specs/Steps.antt` and `specs/Results.antt` say why.
+//! Not: that a stable labelling exists.
 #![tactic(auto)]
 
-ghost use Rattle.refine_rounds.specs.Rounds.{CertainRoutersHold, HeldStaysAlive, RoundsAreSound, SureIsThere};
-ghost use Rattle.refine_rounds.specs.Steps.{BeatenIs, LastRoundDropsNothing, ResultIsSound, StepDropsBeaten};
+mod arrivals;
+mod beating;
+mod dropping;
+mod laws;
+mod rounds;
+mod solving;
 
-/// A round drops nothing that a stable labelling holds: certain routers hold a route, sure candidates are there, and so
-/// what they beat is held nowhere.
-pub fn law_of_rounds()
-    ensures certain { CertainRoutersHold }
-    ensures sure { SureIsThere }
-    ensures kept { HeldStaysAlive }
-    ensures rounds { RoundsAreSound }
-{}
-
-/// A round drops what its test finds beaten, the rounds end, and what is alive then is sound.
-pub fn law_of_steps()
-    ensures beaten { BeatenIs }
-    ensures drops { StepDropsBeaten }
-    ensures last { LastRoundDropsNothing }
-    ensures result { ResultIsSound }
-{}
+pub use laws::{law_of_results, law_of_rounds, law_of_steps};
+pub use solving::{CaseResult, solve_case};

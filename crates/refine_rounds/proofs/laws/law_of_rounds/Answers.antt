@@ -1,5 +1,5 @@
 use Rattle.refine_rounds.proofs.RoundLemmas.{certain_routers_hold, held_stays_alive, rounds_are_sound, sure_is_there}
-use Rattle.refine_rounds.proofs.law_of_rounds.Goals as goal
+use Rattle.refine_rounds.proofs.laws.law_of_rounds.Goals as goal
 
 pub returns-clause-certain : goal.returns-clause-certain
 returns-clause-certain c = certain_routers_hold
