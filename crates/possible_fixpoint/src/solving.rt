@@ -1,6 +1,6 @@
 //! The possible routes of a network.
 
-ghost use Rattle.std.specs.Prelude.{◌≡◌, ◌<◌, ◌≤◌, IfOk};
+ghost use Rattle.std.specs.Prelude.{◌≡◌, ◌<◌, ◌≤◌, IfOk, length};
 ghost use Rattle.net_types.specs.Distance.{AreDistances};
 ghost use Rattle.abstract_maps.specs.AbstractMap.{IsShort};
 ghost use Rattle.abstract_maps.specs.Transfer.{gives};
@@ -82,8 +82,8 @@ impl<'a> Analysis for Case<'a> {
 
 /// The rows of all that each router may hold, one for each router: the least in which each row is above that of the
 /// router's living local route, and above what each living arc gives of its sender's row. The distances are those of
-/// OSPF with these links failed. The answer is the same for every number of workers and every gate; the caller's thread
-/// does all the work, and the gate is not called. This project's own.
+/// OSPF with these links failed; the workers are 1 to 8. The answer is the same for every number of them and every gate; the
+/// caller's thread does all the work, and the gate is not called. This project's own.
 ///
 /// # Errors
 ///
@@ -102,7 +102,8 @@ pub fn solve_possible<R: Threads + Sync, G: Gate + Sync>(
     requires distances { AreDistances net.now prefix failed distances.now }
     requires some { 0 < workers }
     requires few { workers ≤ 8 }
-    ensures { IfOk result (λ rows. rows ≡ possible (flow_of net.now prefix failed distances.now alive.now)) }
+    ensures least { IfOk result (λ rows. rows ≡ possible (flow_of net.now prefix failed distances.now alive.now)) }
+    ensures long { IfOk result (λ rows. length rows ≡ length net.now.routers) }
 {
     net.valid();
     let case = Case {
