@@ -3,4 +3,3 @@ pub mod FolderLemmas
 pub mod StopLemmas
 pub mod StableLemmas
 pub mod RunLemmas
-pub mod SpeakerLemmas

@@ -4,27 +4,25 @@ use Rattle.outside.specs.Content.{Content}
 use Rattle.commands.specs.declared.answer.Answer.{Answer}
 use Rattle.commands.specs.declared.stop.Stop.{Stop}
 use Rattle.commands.specs.declared.stop.Stop.TheVariants.{Refused, ReadFault, NoMemory}
-use Rattle.commands.specs.Commands.{Asked, Check, Stable}
-use Rattle.commands.specs.Ending.{IsReport, check_inputs}
-use Rattle.commands.specs.Running.{Finishes, HasAnswered, HasNoMemory, HasPart, HasUsage, IsAnswerOf, IsBehind, IsEnding, IsPartBehind, IsRefusedCommand, IsWritten, Performs, Refuses, read_fault_line, status_of, usage_line}
-use Rattle.commands.specs.StableEnding.{IsStability, stable_inputs}
+use Rattle.commands.specs.declared.refusals.Refusal.{Refusal}
+use Rattle.commands.specs.declared.command.Command.{Command}
+use Rattle.commands.specs.Asked.{asked}
+use Rattle.commands.specs.Commands.{Asked}
+use Rattle.commands.specs.Refusals.{line_of}
+use Rattle.commands.specs.Running.{Ending, EndsWith, Finishes, HasAnswered, HasNoMemory, HasPart, HasUsage, IsBehind, IsEnding, IsPartBehind, IsRefusedCommand, IsWritten, Performs, ending_of, read_fault_line, status_of, usage_line}
 use Rattle.commands.specs.Stops.{Comes, HasCause}
 
 -- the ending of a command that came to an answer
-ending : {A : Type 0} (Is : A → List ℕ → Bool → Type 0) (value : Result A (List ℕ)) (answer : Answer) (status : ℕ) → Comes Is value (Ok answer) → status ≡ status_of answer.good → IsEnding Is value answer.text status
-ending Is value answer status came is = subst (λ v. IsEnding Is v answer.text status) (sym came.1) (record { good = answer.good; answer = came.2; status_is = is })
-
-answer_of : (content : Content) (asked : Asked) (answer : Answer) (status : ℕ) → Performs content asked (Ok answer) → status ≡ status_of answer.good → IsAnswerOf content asked answer.text status
-answer_of content (Check base new properties) answer status performs is = ending IsReport (check_inputs content base new properties) answer status performs is
-answer_of content (Stable bundle labels) answer status performs is = ending IsStability (stable_inputs content bundle labels) answer status performs is
+answer_of : (ending : Ending) (answer : Answer) (status : ℕ) → Comes ending.Is ending.steps (Ok answer) → status ≡ status_of answer.good → IsEnding ending answer.text status
+answer_of ending answer status came is = subst (λ v. EndsWith ending.Is v answer.text status) (sym came.1) (record { good = answer.good; answer = came.2; status_is = is })
 
 -- the ending of a command that came to a refusal
-refusal : {A : Type 0} (Is : A → List ℕ → Bool → Type 0) (value : Result A (List ℕ)) (line : List ℕ) (status : ℕ) → value ≡ Err line → status ≡ 2 → IsEnding Is value line status
-refusal Is value line status came is = subst (λ v. IsEnding Is v line status) (sym came) (record { text_is = λ i. line; status_is = is })
+refusal_of : (ending : Ending) (refusal : Refusal) (status : ℕ) → Comes ending.Is ending.steps (Err (Refused refusal)) → status ≡ 2 → IsEnding ending (line_of refusal) status
+refusal_of ending refusal status came is = subst (λ v. EndsWith ending.Is v (line_of refusal) status) (sym came) (record { text_is = λ i. line_of refusal; status_is = is })
 
-refusal_of : (content : Content) (asked : Asked) (line : List ℕ) (status : ℕ) → Performs content asked (Err (Refused line)) → status ≡ 2 → IsAnswerOf content asked line status
-refusal_of content (Check base new properties) line status performs is = refusal IsReport (check_inputs content base new properties) line status performs is
-refusal_of content (Stable bundle labels) line status performs is = refusal IsStability (stable_inputs content bundle labels) line status performs is
+-- what the command that was read comes to
+pub performed : (content : Content) (command read : Command) (done : Result Answer Stop) → command ≡ read → Performs content (asked read) done → Performs content (asked command) done
+performed content command read done is performs = subst (λ (c : Command). Performs content (asked c) done) (sym is) performs
 
 -- a text with its status, where the sink did not fail
 whole : (wanted : ℕ) (text before : List ℕ) (faults faults_now : ℕ) (given given_now : Option (List ℕ)) (status : ℕ) → (status ≡ 5 → ⊥) → given ≡ Some before → IsWritten wanted text faults faults_now given given_now status → (status ≡ wanted) × (given_now ≡ Some (before ++ text))
@@ -34,10 +32,11 @@ whole wanted text before faults faults_now given given_now status calm e (inr w)
 pub answered : (content : Content) (asked : Asked) (before : List ℕ) (performed : Result Answer Stop) (faults faults_now : ℕ) (given given_now : Option (List ℕ)) (status : ℕ) → Performs content asked performed → (status ≡ 4 → ⊥) → (status ≡ 5 → ⊥) → given ≡ Some before → Finishes performed faults faults_now given given_now status → HasAnswered content asked before given_now status ⊎ HasNoMemory before given_now status
 answered content asked before (Ok answer) faults faults_now given given_now status performs quiet calm e f =
     let w = whole (status_of answer.good) answer.text before faults faults_now given given_now status calm e f in
-    inl (record { text = answer.text; answer = answer_of content asked answer status performs w.0; written = w.1 })
-answered content asked before (Err (Refused line)) faults faults_now given given_now status performs quiet calm e f =
-    let w = whole 2 line before faults faults_now given given_now status calm e f in
-    inl (record { text = line; answer = refusal_of content asked line status performs w.0; written = w.1 })
+    inl (record { text = answer.text; answer = answer_of (ending_of content asked) answer status performs w.0; written = w.1 })
+answered content asked before (Err (Refused refusal)) faults faults_now given given_now status performs quiet calm e (inl f) =
+    let w = whole 2 (line_of refusal) before faults faults_now given given_now status calm e f in
+    inl (record { text = line_of refusal; answer = refusal_of (ending_of content asked) refusal status performs w.0; written = w.1 })
+answered content asked before (Err (Refused refusal)) faults faults_now given given_now status performs quiet calm e (inr f) = inr (record { status_is = f.ends; written = f.told ∙ e })
 answered content asked before (Err ReadFault) faults faults_now given given_now status performs quiet calm e (inl f) = absurd (quiet f.ends)
 answered content asked before (Err ReadFault) faults faults_now given given_now status performs quiet calm e (inr f) = absurd (calm f.ends)
 answered content asked before (Err NoMemory) faults faults_now given given_now status performs quiet calm e f = inr (record { status_is = f.ends; written = f.told ∙ e })
@@ -57,19 +56,13 @@ small true status is = let zero_is : status ≡ 0 = is in omega arith
 small false status is = let one_is : status ≡ 1 = is in omega arith
 
 -- where a command ends with status 2, a step of it refused
-refuses : {A : Type 0} (Is : A → List ℕ → Bool → Type 0) (value : Result A (List ℕ)) (performed : Result Answer Stop) (faults faults_now : ℕ) (given given_now : Option (List ℕ)) (status : ℕ) → Comes Is value performed → status ≡ 2 → Finishes performed faults faults_now given given_now status → Refuses value
-refuses Is value (Ok answer) faults faults_now given given_now status came two (inl w) = absurd (let one = small answer.good status w.ends in omega arith)
-refuses Is value (Ok answer) faults faults_now given given_now status came two (inr w) = absurd (let five = w.ends in omega arith)
-refuses Is value (Err (Refused line)) faults faults_now given given_now status came two f = (line, came)
-refuses Is value (Err ReadFault) faults faults_now given given_now status came two (inl w) = absurd (let four = w.ends in omega arith)
-refuses Is value (Err ReadFault) faults faults_now given given_now status came two (inr w) = absurd (let five = w.ends in omega arith)
-refuses Is value (Err NoMemory) faults faults_now given given_now status came two f = absurd (let eight = f.ends in omega arith)
-
 pub refused : (content : Content) (asked : Asked) (performed : Result Answer Stop) (faults faults_now : ℕ) (given given_now : Option (List ℕ)) (status : ℕ) → Performs content asked performed → status ≡ 2 → Finishes performed faults faults_now given given_now status → IsRefusedCommand content (Some asked)
-refused content (Check base new properties) performed faults faults_now given given_now status performs two f =
-    refuses IsReport (check_inputs content base new properties) performed faults faults_now given given_now status performs two f
-refused content (Stable bundle labels) performed faults faults_now given given_now status performs two f =
-    refuses IsStability (stable_inputs content bundle labels) performed faults faults_now given given_now status performs two f
+refused content asked (Ok answer) faults faults_now given given_now status came two (inl w) = absurd (let one = small answer.good status w.ends in omega arith)
+refused content asked (Ok answer) faults faults_now given given_now status came two (inr w) = absurd (let five = w.ends in omega arith)
+refused content asked (Err (Refused refusal)) faults faults_now given given_now status came two f = (refusal, came)
+refused content asked (Err ReadFault) faults faults_now given given_now status came two (inl w) = absurd (let four = w.ends in omega arith)
+refused content asked (Err ReadFault) faults faults_now given given_now status came two (inr w) = absurd (let five = w.ends in omega arith)
+refused content asked (Err NoMemory) faults faults_now given given_now status came two f = absurd (let eight = f.ends in omega arith)
 
 -- a beginning of a text, where the status is 5 and not the one that was wanted
 cut : (wanted : ℕ) (text : List ℕ) (faults faults_now : ℕ) (given given_now : Option (List ℕ)) (status : ℕ) → wanted ≤ 4 → status ≡ 5 → IsWritten wanted text faults faults_now given given_now status → IsPartBehind text given given_now
@@ -83,14 +76,15 @@ low false = omega arith
 pub part : (content : Option Content) (asked : Asked) (performed : Result Answer Stop) (read read_now faults faults_now : ℕ) (given given_now : Option (List ℕ)) (status : ℕ) → HasCause read read_now performed → ((c : Content) → content ≡ Some c → Performs c asked performed) → status ≡ 5 → Finishes performed faults faults_now given given_now status → HasPart content (Some asked) read read_now given given_now
 part content asked (Ok answer) read read_now faults faults_now given given_now status cause performs five f = record {
   text = answer.text;
-  meant = inl (λ c e. (status_of answer.good, answer_of c asked answer (status_of answer.good) (performs c e) (λ i. status_of answer.good)));
+  meant = inl (λ c e. (status_of answer.good, answer_of (ending_of c asked) answer (status_of answer.good) (performs c e) (λ i. status_of answer.good)));
   told = cut (status_of answer.good) answer.text faults faults_now given given_now status (low answer.good) five f;
 }
-part content asked (Err (Refused line)) read read_now faults faults_now given given_now status cause performs five f = record {
-  text = line;
-  meant = inl (λ c e. (2, refusal_of c asked line 2 (performs c e) (λ i. 2)));
-  told = cut 2 line faults faults_now given given_now status (omega arith) five f;
+part content asked (Err (Refused refusal)) read read_now faults faults_now given given_now status cause performs five (inl f) = record {
+  text = line_of refusal;
+  meant = inl (λ c e. (2, refusal_of (ending_of c asked) refusal 2 (performs c e) (λ i. 2)));
+  told = cut 2 (line_of refusal) faults faults_now given given_now status (omega arith) five f;
 }
+part content asked (Err (Refused refusal)) read read_now faults faults_now given given_now status cause performs five (inr f) = absurd (let eight = f.ends in omega arith)
 part content asked (Err ReadFault) read read_now faults faults_now given given_now status cause performs five f = record {
   text = read_fault_line;
   meant = inr ((λ i. read_fault_line), cause.1);
@@ -109,14 +103,14 @@ usage_part content read read_now wanted text faults faults_now given given_now s
 
 pub read_still : (performed : Result Answer Stop) (read read_now faults faults_now : ℕ) (given given_now : Option (List ℕ)) (status : ℕ) → HasCause read read_now performed → Finishes performed faults faults_now given given_now status → (status ≡ 4 → ⊥) → (status ≡ 5 → ⊥) → read_now ≡ read
 read_still (Ok answer) read read_now faults faults_now given given_now status cause f quiet calm = cause
-read_still (Err (Refused line)) read read_now faults faults_now given given_now status cause f quiet calm = cause
+read_still (Err (Refused refusal)) read read_now faults faults_now given given_now status cause f quiet calm = cause
 read_still (Err ReadFault) read read_now faults faults_now given given_now status cause (inl w) quiet calm = absurd (quiet w.ends)
 read_still (Err ReadFault) read read_now faults faults_now given given_now status cause (inr w) quiet calm = absurd (calm w.ends)
 read_still (Err NoMemory) read read_now faults faults_now given given_now status cause f quiet calm = cause
 
 pub read_kept : (performed : Result Answer Stop) (read read_now : ℕ) → HasCause read read_now performed → read ≤ read_now
 read_kept (Ok answer) read read_now cause = let still : read_now ≡ read = cause in omega arith
-read_kept (Err (Refused line)) read read_now cause = let still : read_now ≡ read = cause in omega arith
+read_kept (Err (Refused refusal)) read read_now cause = let still : read_now ≡ read = cause in omega arith
 read_kept (Err ReadFault) read read_now cause = cause.0
 read_kept (Err NoMemory) read read_now cause = let still : read_now ≡ read = cause in omega arith
 
@@ -126,7 +120,8 @@ written_still wanted text faults faults_now given given_now status (inr w) calm 
 
 pub write_still : (performed : Result Answer Stop) (faults faults_now : ℕ) (given given_now : Option (List ℕ)) (status : ℕ) → Finishes performed faults faults_now given given_now status → (status ≡ 5 → ⊥) → faults_now ≡ faults
 write_still (Ok answer) faults faults_now given given_now status f calm = written_still (status_of answer.good) answer.text faults faults_now given given_now status f calm
-write_still (Err (Refused line)) faults faults_now given given_now status f calm = written_still 2 line faults faults_now given given_now status f calm
+write_still (Err (Refused refusal)) faults faults_now given given_now status (inl f) calm = written_still 2 (line_of refusal) faults faults_now given given_now status f calm
+write_still (Err (Refused refusal)) faults faults_now given given_now status (inr f) calm = f.still
 write_still (Err ReadFault) faults faults_now given given_now status f calm = written_still 4 read_fault_line faults faults_now given given_now status f calm
 write_still (Err NoMemory) faults faults_now given given_now status f calm = f.still
 
@@ -136,6 +131,7 @@ written_kept wanted text faults faults_now given given_now status (inr w) = w.ke
 
 pub write_kept : (performed : Result Answer Stop) (faults faults_now : ℕ) (given given_now : Option (List ℕ)) (status : ℕ) → Finishes performed faults faults_now given given_now status → faults ≤ faults_now
 write_kept (Ok answer) faults faults_now given given_now status f = written_kept (status_of answer.good) answer.text faults faults_now given given_now status f
-write_kept (Err (Refused line)) faults faults_now given given_now status f = written_kept 2 line faults faults_now given given_now status f
+write_kept (Err (Refused refusal)) faults faults_now given given_now status (inl f) = written_kept 2 (line_of refusal) faults faults_now given given_now status f
+write_kept (Err (Refused refusal)) faults faults_now given given_now status (inr f) = let still = f.still in omega arith
 write_kept (Err ReadFault) faults faults_now given given_now status f = written_kept 4 read_fault_line faults faults_now given given_now status f
 write_kept (Err NoMemory) faults faults_now given given_now status f = let still = f.still in omega arith

@@ -1,9 +1,8 @@
 pub mod Refusals
 pub mod Folder
 pub mod Stops
-pub mod Steps
 pub mod Commands
 pub mod Asked
-pub mod Ending
+pub mod CheckEnding
 pub mod StableEnding
 pub mod Running

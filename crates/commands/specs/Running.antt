@@ -2,11 +2,15 @@
 use Rattle.std.specs.Prelude.{ℕ, ◌≡◌, ◌≤◌, ◌<◌, ◌⊎◌, ◌++◌, Bool, List as Seq, length, take, codes, Option, Some, None, Result, Ok, Err, if◌then◌else◌}
 use Rattle.outside.specs.Content.{Content}
 use Rattle.outside.specs.Faults.{Rose}
+use Rattle.judging.specs.declared.inputs.Inputs.{Inputs}
 use Rattle.commands.specs.declared.answer.Answer.{Answer}
+use Rattle.commands.specs.declared.stable.Proposal.{Proposal}
 use Rattle.commands.specs.declared.stop.Stop.{Stop}
 use Rattle.commands.specs.declared.stop.Stop.TheVariants.{Refused, ReadFault, NoMemory}
+use Rattle.commands.specs.declared.refusals.Refusal.{Refusal}
 use Rattle.commands.specs.Commands.{Asked, Check, Stable}
-use Rattle.commands.specs.Ending.{IsReport, check_inputs}
+use Rattle.commands.specs.CheckEnding.{IsReport, check_inputs}
+use Rattle.commands.specs.Refusals.{line_of}
 use Rattle.commands.specs.StableEnding.{IsStability, stable_inputs}
 use Rattle.commands.specs.Stops.{Comes}
 
@@ -28,31 +32,40 @@ pub record IsAnswered (Is : Seq ℕ → Bool → Type 0) (text : Seq ℕ) (statu
   pub answer : Is text good
   pub status_is : status ≡ status_of good
 
--- a step of it refused with this line
-pub record IsRefused (line text : Seq ℕ) (status : ℕ) : Type 0 where
-  pub text_is : text ≡ line
+-- a step of it refused, and its line says why
+pub record IsRefused (refusal : Refusal) (text : Seq ℕ) (status : ℕ) : Type 0 where
+  pub text_is : text ≡ line_of refusal
   pub status_is : status ≡ 2
 
--- the text and the status of a command by what its steps came to: its answer on its inputs, or the line of
--- the step that refused
-abbrev pub IsEnding : {A : Type 0} → (A → Seq ℕ → Bool → Type 0) → Result A (Seq ℕ) → Seq ℕ → ℕ → Type 0
-IsEnding Is (Ok inputs) text status = IsAnswered (Is inputs) text status
-IsEnding Is (Err line) text status = IsRefused line text status
+-- how a command ends: what its steps come to, its input or the first refusal; and which text answers on an input, and
+-- whether that is good
+pub record Ending : Type 1 where
+  pub Input : Type 0
+  pub steps : Result Input Refusal
+  pub Is : Input → Seq ℕ → Bool → Type 0
 
--- the text and the status of a command over this content
-abbrev pub IsAnswerOf : Content → Asked → Seq ℕ → ℕ → Type 0
-IsAnswerOf content (Check base new properties) = IsEnding IsReport (check_inputs content base new properties)
-IsAnswerOf content (Stable bundle labels) = IsEnding IsStability (stable_inputs content bundle labels)
+-- the ending of each command over this content
+abbrev pub ending_of : Content → Asked → Ending
+ending_of content (Check base new properties) = record { Input = Inputs; steps = check_inputs content base new properties; Is = IsReport }
+ending_of content (Stable bundle labels) = record { Input = Proposal; steps = stable_inputs content bundle labels; Is = IsStability }
+
+-- the text and the status of a command by what its steps came to: its answer on its inputs, or the line of
+-- the refusal
+abbrev pub EndsWith : {A : Type 0} → (A → Seq ℕ → Bool → Type 0) → Result A Refusal → Seq ℕ → ℕ → Type 0
+EndsWith Is (Ok inputs) text status = IsAnswered (Is inputs) text status
+EndsWith Is (Err refusal) text status = IsRefused refusal text status
+
+abbrev pub IsEnding : Ending → Seq ℕ → ℕ → Type 0
+IsEnding ending text status = EndsWith ending.Is ending.steps text status
 
 -- what a command comes to, before it is written
 abbrev pub Performs : Content → Asked → Result Answer Stop → Type 0
-Performs content (Check base new properties) = Comes IsReport (check_inputs content base new properties)
-Performs content (Stable bundle labels) = Comes IsStability (stable_inputs content bundle labels)
+Performs content asked performed = Comes (ending_of content asked).Is (ending_of content asked).steps performed
 
 -- the answer of a command over this content, written behind what the sink held before
 pub record HasAnswered (content : Content) (asked : Asked) (before : Seq ℕ) (after : Option (Seq ℕ)) (status : ℕ) : Type 0 where
   pub text : Seq ℕ
-  pub answer : IsAnswerOf content asked text status
+  pub answer : IsEnding (ending_of content asked) text status
   pub written : after ≡ Some (before ++ text)
 
 -- the status is that of want of memory, and nothing was written
@@ -107,14 +120,15 @@ pub record IsSilent (faults faults_now : ℕ) (given given_now : Option (Seq ℕ
 -- how a command that came to this is ended
 abbrev pub Finishes : Result Answer Stop → ℕ → ℕ → Option (Seq ℕ) → Option (Seq ℕ) → ℕ → Type 0
 Finishes (Ok answer) faults faults_now given given_now status = IsWritten (status_of answer.good) answer.text faults faults_now given given_now status
-Finishes (Err (Refused line)) faults faults_now given given_now status = IsWritten 2 line faults faults_now given given_now status
+Finishes (Err (Refused refusal)) faults faults_now given given_now status =
+    IsWritten 2 (line_of refusal) faults faults_now given given_now status ⊎ IsSilent faults faults_now given given_now status
 Finishes (Err ReadFault) faults faults_now given given_now status = IsWritten 4 read_fault_line faults faults_now given given_now status
 Finishes (Err NoMemory) faults faults_now given given_now status = IsSilent faults faults_now given given_now status
 
 -- the text that a run means to write: the usage line; or the text of the command's answer over the content that is
 -- told; or that the files failed, where their count of faults rose
 abbrev pub IsAnswerText : Option Content → Asked → Seq ℕ → Type 0
-IsAnswerText content asked text = (c : Content) → content ≡ Some c → (status : ℕ) × IsAnswerOf c asked text status
+IsAnswerText content asked text = (c : Content) → content ≡ Some c → (status : ℕ) × IsEnding (ending_of c asked) text status
 
 abbrev pub IsMeant : Option Content → Option Asked → ℕ → ℕ → Seq ℕ → Type 0
 IsMeant content None faults faults_now text = text ≡ usage_line
@@ -126,14 +140,10 @@ pub record HasPart (content : Option Content) (asked : Option Asked) (faults fau
   pub meant : IsMeant content asked faults faults_now text
   pub told : IsPartBehind text given given_now
 
--- the words are a command whose steps refuse over this content
-abbrev pub Refuses : {A : Type 0} → Result A (Seq ℕ) → Type 0
-Refuses value = (line : Seq ℕ) × (value ≡ Err line)
-
+-- the words are a command of which a step refuses over this content
 abbrev pub IsRefusedCommand : Content → Option Asked → Type 0
 IsRefusedCommand content None = ⊥
-IsRefusedCommand content (Some (Check base new properties)) = Refuses (check_inputs content base new properties)
-IsRefusedCommand content (Some (Stable bundle labels)) = Refuses (stable_inputs content bundle labels)
+IsRefusedCommand content (Some asked) = (refusal : Refusal) × ((ending_of content asked).steps ≡ Err refusal)
 
 -- the statuses that a run can end with
 abbrev pub IsStatus : ℕ → Type 0

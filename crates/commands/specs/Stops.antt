@@ -1,14 +1,15 @@
--- What a step of a command answers: its value, or the line of its refusal.
+-- What a step of a command answers: its value, or its refusal.
 use Rattle.std.specs.Prelude.{ℕ, ◌≡◌, ◌≤◌, Bool, List as Seq, Result, Ok, Err}
 use Rattle.outside.specs.Faults.{Rose}
 use Rattle.commands.specs.declared.answer.Answer.{Answer}
+use Rattle.commands.specs.declared.refusals.Refusal.{Refusal}
 use Rattle.commands.specs.declared.stop.Stop.{Stop}
 use Rattle.commands.specs.declared.stop.Stop.TheVariants.{Refused, ReadFault, NoMemory}
 
 -- the answer is the step's value or its refusal, unless the shelf failed or there was no memory
-abbrev pub Gives : {A : Type 0} → Result A (Seq ℕ) → Result A Stop → Type 0
+abbrev pub Gives : {A : Type 0} → Result A Refusal → Result A Stop → Type 0
 Gives value (Ok found) = value ≡ Ok found
-Gives value (Err (Refused line)) = value ≡ Err line
+Gives value (Err (Refused refusal)) = value ≡ Err refusal
 Gives value (Err ReadFault) = Unit {0}
 Gives value (Err NoMemory) = Unit {0}
 
@@ -16,26 +17,26 @@ Gives value (Err NoMemory) = Unit {0}
 -- so no call that failed is tried again or passed over
 abbrev pub HasCause : {A : Type 0} → ℕ → ℕ → Result A Stop → Type 0
 HasCause before now (Ok found) = now ≡ before
-HasCause before now (Err (Refused line)) = now ≡ before
+HasCause before now (Err (Refused refusal)) = now ≡ before
 HasCause before now (Err ReadFault) = (before ≤ now) × Rose before now
 HasCause before now (Err NoMemory) = now ≡ before
 
 -- the answer is not that the shelf failed
 abbrev pub IsCalm : {A : Type 0} → Result A Stop → Type 0
 IsCalm (Ok found) = Unit {0}
-IsCalm (Err (Refused line)) = Unit {0}
+IsCalm (Err (Refused refusal)) = Unit {0}
 IsCalm (Err ReadFault) = ⊥
 IsCalm (Err NoMemory) = Unit {0}
 
--- a stop with this line, unless there was no memory for it
-abbrev pub StopsAt : Seq ℕ → Stop → Type 0
-StopsAt wanted (Refused line) = line ≡ wanted
+-- a stop at this refusal, unless there was no memory for it
+abbrev pub StopsAt : Refusal → Stop → Type 0
+StopsAt wanted (Refused refusal) = refusal ≡ wanted
 StopsAt wanted ReadFault = ⊥
 StopsAt wanted NoMemory = Unit {0}
 
--- what a command comes to: the answer on its inputs, or the line of the step that refuses
-abbrev pub Comes : {A : Type 0} → (A → Seq ℕ → Bool → Type 0) → Result A (Seq ℕ) → Result Answer Stop → Type 0
+-- what a command comes to: the answer on its inputs, or the refusal of the step that refuses
+abbrev pub Comes : {A : Type 0} → (A → Seq ℕ → Bool → Type 0) → Result A Refusal → Result Answer Stop → Type 0
 Comes {A} Is value (Ok answer) = (inputs : A) × (value ≡ Ok inputs) × Is inputs answer.text answer.good
-Comes Is value (Err (Refused line)) = value ≡ Err line
+Comes Is value (Err (Refused refusal)) = value ≡ Err refusal
 Comes Is value (Err ReadFault) = Unit {0}
 Comes Is value (Err NoMemory) = Unit {0}

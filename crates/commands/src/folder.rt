@@ -3,14 +3,13 @@
 ghost use Rattle.std.specs.Prelude.{◌≡◌, ◌≤◌, ◌<◌, [], IfOk, OnOk, OnErr, Ok, Err, Some, None, codes, filter, length, map, nat_eq, string_bytes, true, ◌++◌, ◌∷◌};
 ghost use Rattle.std.specs.List.{ends_with, list_any, position_or_len};
 ghost use Rattle.net_types.specs.Order.{same_text, text_before};
-ghost use Rattle.net_types.specs.declared.refusals.BundleRefusal.TheVariants.{TooManyFiles};
 ghost use Rattle.topology.specs.Ascending.{put};
 ghost use Rattle.outside.specs.Content.{Content, names_in, path_of};
 ghost use Rattle.commands.specs.Folder.{bytes_of, config_names, few_files_of, files_of, folder_of, is_config};
+ghost use Rattle.commands.specs.declared.refusals.Refusal.TheVariants.{NoPath};
 ghost use Rattle.commands.specs.Stops.{Gives, HasCause, StopsAt};
-ghost use Rattle.commands.specs.Refusals.{bundle_text, no_path_line, refused_line};
 
-use crate::refusal_texts::{bundle_text, no_path_line, refused_line};
+use crate::refusals::{Bundle, Refusal};
 use crate::stop::Stop;
 use net_types::{BundleRefusal, List, NoMemory, SourceFile, Text};
 use outside::{Shelf, ShelfError};
@@ -74,13 +73,13 @@ fn config_names(alloc: Global, names: List<Text>) -> Result<Vec<Text>, NoMemory>
     Ok(done)
 }
 
-/// The line that says that nothing is at a path, as a stop.
+// The stop where nothing is at a path.
 fn no_path(alloc: Global, path: &str) -> Stop
-    ensures { StopsAt (no_path_line path.now) result }
+    ensures { StopsAt (NoPath path.now) result }
 {
-    match no_path_line(alloc, path) {
-        Ok(line) => Stop::Refused(Text::from_string(line)),
-        Err(NoMemory) => Stop::NoMemory,
+    match Text::from_str(alloc, path) {
+        Ok(path) => Stop::Refused(Refusal::NoPath(path)),
+        Err(_) => Stop::NoMemory,
     }
 }
 
@@ -144,68 +143,51 @@ fn read_files<F: Shelf>(
 fn read_few<F: Shelf>(
     alloc: Global,
     shelf: &mut F,
-    side: &str,
+    bundle: Bundle,
     folder: &str,
     names: Vec<Text>,
 ) -> Result<List<SourceFile>, Stop>
     ensures cause { HasCause (F.faults shelf.old) (F.faults shelf.new) result }
     ensures same { F.content shelf.new ≡ F.content shelf.old }
-    ensures told { (c : Content) → F.content shelf.old ≡ Some c → Gives (few_files_of c side.now folder.now names.items) result }
+    ensures told { (c : Content) → F.content shelf.old ≡ Some c → Gives (few_files_of c bundle folder.now names.items) result }
 {
-    let count = names.len();
-    if count > MOST_FILES {
-        return Err(too_many(alloc, side, count as u64));
+    if names.len() > MOST_FILES {
+        let refusal = BundleRefusal::TooManyFiles(names.len() as u64);
+        return Err(Stop::Refused(Refusal::Bundle(bundle, List::new(alloc), refusal)));
     }
     read_files(alloc, shelf, folder, names)
-}
-
-// The stop at too many files.
-fn too_many(alloc: Global, side: &str, count: u64) -> Stop
-    ensures { StopsAt (refused_line side.now (bundle_text [] (TooManyFiles count))) result }
-{
-    match too_many_line(alloc, side, count) {
-        Ok(line) => Stop::Refused(Text::from_string(line)),
-        Err(NoMemory) => Stop::NoMemory,
-    }
-}
-
-fn too_many_line(alloc: Global, side: &str, count: u64) -> Result<String, NoMemory>
-    ensures { IfOk result (λ line. string_bytes line ≡ refused_line side.now (bundle_text [] (TooManyFiles count))) }
-{
-    let cause = bundle_text(alloc, &[], BundleRefusal::TooManyFiles(count))?;
-    refused_line(alloc, side, cause.as_str())
 }
 
 // The listed names' configuration files.
 fn read_listed<F: Shelf>(
     alloc: Global,
     shelf: &mut F,
-    side: &str,
+    bundle: Bundle,
     folder: &str,
     names: List<Text>,
 ) -> Result<List<SourceFile>, Stop>
     ensures cause { HasCause (F.faults shelf.old) (F.faults shelf.new) result }
     ensures same { F.content shelf.new ≡ F.content shelf.old }
-    ensures told { (c : Content) → F.content shelf.old ≡ Some c → Gives (few_files_of c side.now folder.now (config_names names)) result }
+    ensures told { (c : Content) → F.content shelf.old ≡ Some c → Gives (few_files_of c bundle folder.now (config_names names)) result }
 {
     let names = config_names(alloc, names)?;
-    read_few(alloc, shelf, side, folder, names)
+    read_few(alloc, shelf, bundle, folder, names)
 }
 
-/// The configuration files of a side's folder: the names that end in `.conf`, in byte order, each once.
+/// The configuration files of a bundle's folder: the names that end in `.conf`, in byte order, each once.
 #[tactic(auto, unfolding(crate::specs::Folder::folder_of))]
 pub fn read_folder<F: Shelf>(
     alloc: Global,
     shelf: &mut F,
-    side: &str,
+    bundle: Bundle,
     folder: &str,
 ) -> Result<List<SourceFile>, Stop>
     ensures cause { HasCause (F.faults shelf.old) (F.faults shelf.new) result }
     ensures same { F.content shelf.new ≡ F.content shelf.old }
-    ensures told { (c : Content) → F.content shelf.old ≡ Some c → Gives (folder_of c side.now folder.now) result }
+    ensures told { (c : Content) → F.content shelf.old ≡ Some c → Gives (folder_of c bundle folder.now) result }
 {
     match shelf.list(alloc, folder) {
-        Ok(names) => read_listed(alloc, shelf, side, folder, names),
+        Ok(names) => read_listed(alloc, shelf, bundle, folder, names),
         Err(ShelfError::Absent) => Err(no_path(alloc, folder)),
         Err(ShelfError::Failed) => Err(Stop::ReadFault),
         Err(ShelfError::NoMemory) => Err(Stop::NoMemory),

@@ -5,16 +5,18 @@ ghost use Rattle.outside.specs.Content.{Content};
 ghost use Rattle.outside.specs.Faults.{Rose};
 ghost use Rattle.commands.specs.Asked.{asked};
 ghost use Rattle.commands.specs.Commands.{command_of};
-ghost use Rattle.commands.specs.Running.{Answers, Finishes, HasPart, IsBehind, IsRefusedCommand, IsStatus, IsWritten, Performs, read_fault_line, status_of, usage_line};
+ghost use Rattle.commands.specs.Refusals.{line_of};
+ghost use Rattle.commands.specs.Running.{Answers, Finishes, HasPart, IsBehind, IsRefusedCommand, IsSilent, IsStatus, IsWritten, Performs, read_fault_line, status_of, usage_line};
 ghost use Rattle.commands.specs.Stops.{HasCause};
 
 use crate::answer::Answer;
 use crate::check::check;
 use crate::command::{Command, command_of};
+use crate::refusals::{Refusal, line_of};
 use crate::stable::stable;
 use crate::status::Status;
 use crate::stop::Stop;
-use net_types::Text;
+use net_types::{NoMemory, Text};
 use outside::{Shelf, Sink, give_all};
 use std::alloc::Global;
 
@@ -38,14 +40,24 @@ fn status_of(good: bool) -> Status
     if good { Status::new(0) } else { Status::new(1) }
 }
 
+// Writes why a command is refused.
+fn refuse<O: Sink>(alloc: Global, out: &mut O, refusal: &Refusal) -> Status
+    ensures { IsWritten 2 (line_of refusal.now) (O.faults out.old) (O.faults out.new) (O.given out.old) (O.given out.new) result ⊎ IsSilent (O.faults out.old) (O.faults out.new) (O.given out.old) (O.given out.new) result }
+{
+    match line_of(alloc, refusal) {
+        Ok(line) => write(out, line.as_bytes(), Status::new(2)),
+        Err(NoMemory) => Status::new(8),
+    }
+}
+
 // Writes what a command came to.
 #[tactic(auto, unfolding(crate::specs::Running::read_fault_line))]
-fn finish<O: Sink>(out: &mut O, performed: Result<Answer, Stop>) -> Status
+fn finish<O: Sink>(alloc: Global, out: &mut O, performed: Result<Answer, Stop>) -> Status
     ensures { Finishes performed (O.faults out.old) (O.faults out.new) (O.given out.old) (O.given out.new) result }
 {
     match performed {
         Ok(answer) => write(out, answer.text.as_bytes(), status_of(answer.good)),
-        Err(Stop::Refused(line)) => write(out, line.as_bytes(), Status::new(2)),
+        Err(Stop::Refused(refusal)) => refuse(alloc, out, &refusal),
         Err(Stop::ReadFault) => write(out, b"read fault\n", Status::new(4)),
         Err(Stop::NoMemory) => Status::new(8),
     }
@@ -95,7 +107,7 @@ pub fn run<F: Shelf, O: Sink>(alloc: Global, words: &[Text], shelf: &mut F, out:
     match command_of(words) {
         Some(command) => {
             let performed = perform(alloc, shelf, command);
-            finish(out, performed)
+            finish(alloc, out, performed)
         }
         None => write(out, USAGE.as_bytes(), Status::new(3)),
     }

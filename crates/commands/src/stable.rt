@@ -2,25 +2,27 @@
 
 ghost use Rattle.std.specs.Prelude.{◌≡◌, ◌<◌, ◌^◌, ℕ, IfOk, Some, length, string_bytes};
 ghost use Rattle.net_types.specs.Distance.{AreDistances, distance_at};
+ghost use Rattle.bundle_reader.specs.Bundle.{bundle_of};
 ghost use Rattle.ospf_paths.specs.DistanceList.{distance_list};
 ghost use Rattle.concrete_algebra.specs.Problem.{problem_of};
 ghost use Rattle.outside.specs.Content.{Content};
 ghost use Rattle.concrete_algebra.specs.Answers.{IsAnswer};
 ghost use Rattle.label_file.specs.Facts.{AreLabels};
-ghost use Rattle.commands.specs.StableEnding.{IsStability, broken_line, labels_in, problem_at, proposed, stable_inputs, stable_line};
+ghost use Rattle.commands.specs.StableEnding.{IsStability, broken_line, labels_in, network_of, problem_at, proposed, stable_inputs, stable_line};
 ghost use Rattle.commands.specs.Stops.{Comes, Gives, HasCause, IsCalm};
 
 use crate::answer::Answer;
-use crate::bundle::network_of;
 use crate::folder::{read_file, read_folder};
-use crate::form::form_refused;
+use crate::refusals::{Bundle, Form, Refusal};
 use crate::stop::Stop;
+use bundle_reader::read_bundle;
 use concrete_algebra::{StableAnswer, check_stable};
 use label_file::{Labels, read_labels};
-use net_types::{FailSet, FormRefusal, Net, NoMemory, Prefix, Route, SourceFile, Text};
+use net_types::{
+    BundleRefusal, FailSet, FormRefusal, List, Net, NoMemory, Prefix, Route, SourceFile, Text,
+};
 use ospf_paths::distances;
 use outside::Shelf;
-use report_text::host_of;
 use std::alloc::Global;
 
 /// A network, and the labels that are proposed for it.
@@ -30,6 +32,28 @@ pub struct Proposal {
     pub net: Net,
     /// The labels.
     pub labels: Labels,
+}
+
+// The network of files or why they make none, unless there was no memory.
+fn read(alloc: Global, files: &[SourceFile]) -> Result<Result<Net, BundleRefusal>, NoMemory>
+    ensures { IfOk result (λ read. bundle_of files.now ≡ read) }
+{
+    match read_bundle(alloc, files) {
+        Ok(net) => Ok(Ok(net)),
+        Err(BundleRefusal::NoMemory) => Err(NoMemory),
+        Err(refusal) => Ok(Err(refusal)),
+    }
+}
+
+// The network of the files of a folder.
+fn network_of(alloc: Global, files: List<SourceFile>) -> Result<Net, Stop>
+    ensures gives { Gives (network_of files) result }
+    ensures calm { IsCalm result }
+{
+    match read(alloc, files.as_slice())? {
+        Ok(net) => Ok(net),
+        Err(refusal) => Err(Stop::Refused(Refusal::Bundle(Bundle::Only, files, refusal))),
+    }
 }
 
 // The labels of a label file on the network.
@@ -42,17 +66,17 @@ fn labels_in(alloc: Global, net: &Net, text: &[u8]) -> Result<Labels, Stop>
     match read_labels(alloc, net, text) {
         Ok(labels) => Ok(labels),
         Err(FormRefusal::NoMemory) => Err(Stop::NoMemory),
-        Err(refusal) => Err(form_refused(alloc, "labels", refusal)),
+        Err(refusal) => Err(Stop::Refused(Refusal::Form(Form::Labels, refusal))),
     }
 }
 
 // The network and its labels, from files that were read.
-fn proposed(alloc: Global, files: &[SourceFile], text: &[u8]) -> Result<Proposal, Stop>
-    ensures gives { Gives (proposed files.now text.now) result }
+fn proposed(alloc: Global, files: List<SourceFile>, text: &[u8]) -> Result<Proposal, Stop>
+    ensures gives { Gives (proposed files text.now) result }
     ensures kept { IfOk result (λ proposal. AreLabels proposal.net proposal.labels) }
     ensures calm { IsCalm result }
 {
-    let net = network_of(alloc, "bundle", files)?;
+    let net = network_of(alloc, files)?;
     let labels = labels_in(alloc, &net, text)?;
     Ok(Proposal { net, labels })
 }
@@ -70,9 +94,9 @@ fn stable_inputs<F: Shelf>(
     ensures told { (c : Content) → F.content shelf.old ≡ Some c → Gives (stable_inputs c bundle.now labels.now) result }
     ensures kept { IfOk result (λ proposal. AreLabels proposal.net proposal.labels) }
 {
-    let files = read_folder(alloc, shelf, "bundle", bundle)?;
+    let files = read_folder(alloc, shelf, Bundle::Only, bundle)?;
     let text = read_file(alloc, shelf, labels)?;
-    proposed(alloc, files.as_slice(), text.as_slice())
+    proposed(alloc, files, text.as_slice())
 }
 
 #[tactic(auto, unfolding(crate::specs::StableEnding::stable_line))]
@@ -135,7 +159,7 @@ fn said(alloc: Global, proposal: &Proposal, tested: StableAnswer) -> Result<Answ
             good: true,
         }),
         StableAnswer::Breaks(router) => Ok(Answer {
-            text: Text::from_string(broken_line(alloc, host_of(&proposal.net, router))?),
+            text: Text::from_string(broken_line(alloc, proposal.net.host_of(router))?),
             good: false,
         }),
     }

@@ -1,13 +1,14 @@
 //! Why a command ends before its answer.
 
-use net_types::{NoMemory, Text};
+use crate::refusals::Refusal;
+use net_types::NoMemory;
 use std::alloc::{AllocError, AllocFailed};
 
 /// Why a command ends before its answer.
 #[derive(Debug, Drop)]
 pub enum Stop {
-    /// An input is refused, or a path is not there: the whole line that says so.
-    Refused(Text),
+    /// It is refused.
+    Refused(Refusal),
     /// A call of the shelf failed.
     ReadFault,
     /// There was no memory.

@@ -1,13 +1,11 @@
 -- The report, byte by byte.
-use Rattle.std.specs.Prelude.{ℕ, Bool, true, false, List as Seq, [], ◌∷◌, length, codes, slice_get}
+use Rattle.std.specs.Prelude.{ℕ, List as Seq, [], ◌∷◌, length, codes}
 use Rattle.std.specs.Fmt.{decimal}
-use Rattle.std.specs.Option.{option_map_or}
-use Rattle.std.specs.List.{list_all}
-use Rattle.net_types.specs.declared.network.Router.{Router}
 use Rattle.net_types.specs.declared.network.Notice.{Notice}
 use Rattle.net_types.specs.NetValue.{NetValue}
 use Rattle.net_types.specs.Then.{◌then◌}
 use Rattle.net_types.specs.AddressTexts.{address_text}
+use Rattle.net_types.specs.Numbering.{host_of}
 use Rattle.property_book.specs.declared.property.Property.{Property}
 use Rattle.property_book.specs.declared.verdict.Barred.{Barred}
 use Rattle.property_book.specs.declared.verdict.Barred.TheVariants.{UnknownRouter, NotOwned, Overlaps}
@@ -16,10 +14,6 @@ use Rattle.property_book.specs.declared.verdict.Broken.TheVariants.{NoSureRoute,
 use Rattle.property_book.specs.declared.verdict.Verdict.{Verdict}
 use Rattle.property_book.specs.declared.verdict.Verdict.TheVariants.{Certified, NotCertified, NotApplicable}
 use Rattle.property_book.specs.declared.verdict.Outcome.{Outcome}
-
--- the host of a router
-abbrev pub host_of : NetValue → ℕ → Seq ℕ
-host_of net u = option_map_or (λ (router : Router). router.host) (slice_get net.routers u) []
 
 -- a failure set, its links in braces, joined by commas: what stands behind its first link, and the whole
 abbrev pub more_links : Seq ℕ → Seq ℕ
@@ -91,12 +85,3 @@ framed sides lines notices =
 unfoldable pub report_of : Seq Property → NetValue → Outcome → NetValue → Outcome → Seq ℕ
 report_of book base on_base new on_new =
     framed (side_lines base on_base new on_new) (property_lines base new book on_base.verdicts on_new.verdicts) (all_notices base new)
-
--- the verdict is a certificate, and every one is
-abbrev pub is_certified : Verdict → Bool
-is_certified Certified = true
-is_certified (NotCertified failed broken) = false
-is_certified (NotApplicable bar) = false
-
-abbrev pub are_certified : Seq Verdict → Bool
-are_certified verdicts = list_all is_certified verdicts

@@ -1,11 +1,10 @@
 //! The text of a report.
 //!
-//! Decides: the bytes of the report of a book on two networks, before and after a change, and whether all
-//! of its verdicts are certificates.
+//! Decides: the bytes of the report of a book on two networks, before and after a change.
 //! Stands on: `net_types` and `property_book`.
 //! Promises: the text is the one of `specs/Report.antt`, whatever was found. Not: that it was found rightly.
 #![tactic(auto)]
 
 mod texts;
 
-pub use texts::{Side, are_certified, host_of, report};
+pub use texts::{Side, report};

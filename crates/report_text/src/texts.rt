@@ -2,7 +2,7 @@
 
 ghost use Rattle.std.specs.Prelude.{◌≡◌, ◌++◌, IfOk, OnOk, codes, length, string_bytes};
 ghost use Rattle.net_types.specs.Then.{◌then◌};
-ghost use Rattle.report_text.specs.Report.{are_certified, barred_text, broken_text, host_of, is_certified, more_links, notice_line, notice_lines, property_line, property_lines, report_of, set_text, side_line, side_lines, framed, all_notices, verdict_text};
+ghost use Rattle.report_text.specs.Report.{barred_text, broken_text, more_links, notice_line, notice_lines, property_line, property_lines, report_of, set_text, side_line, side_lines, framed, all_notices, verdict_text};
 
 use net_types::{FailSet, Net, NoMemory, Notice, address_text};
 use property_book::{Barred, Broken, Outcome, Property, Verdict};
@@ -15,16 +15,6 @@ pub struct Side<'a> {
     pub net: &'a Net,
     /// What was found.
     pub outcome: &'a Outcome,
-}
-
-/// The host of a router, or nothing where there is no such router.
-pub fn host_of(net: &Net, router: u8) -> &str
-    ensures { result.now ≡ host_of net.now router }
-{
-    match net.routers().get(usize::from(router)) {
-        Some(found) => found.host.as_str(),
-        None => "",
-    }
 }
 
 fn barred_text(bar: Barred) -> &'static str
@@ -42,14 +32,14 @@ fn broken_text(alloc: Global, net: &Net, broken: Broken) -> Result<String, NoMem
 {
     Ok(match broken {
         Broken::NoSureRoute(router) => {
-            let host = host_of(net, router);
+            let host = net.host_of(router);
             format!(in alloc; "no sure route at {host}")?
         }
         Broken::IsOwner => String::from_str(alloc, "is an owner")?,
         Broken::MayLearn => String::from_str(alloc, "may learn a route")?,
         Broken::HasOspf => String::from_str(alloc, "has an OSPF route")?,
         Broken::Bypass(router) => {
-            let host = host_of(net, router);
+            let host = net.host_of(router);
             format!(in alloc; "reaches owner {host} around the waypoint")?
         }
     })
@@ -115,7 +105,7 @@ fn property_line(
 fn notice_line(alloc: Global, side: &str, net: &Net, notice: &Notice) -> Result<String, NoMemory>
     ensures { IfOk result (λ text. string_bytes text ≡ notice_line side.now net.now notice.now) }
 {
-    let host = host_of(net, notice.router);
+    let host = net.host_of(notice.router);
     let address = address_text(alloc, notice.address)?;
     Ok(format!(in alloc; "notice {side}: {host} neighbor {address} has no matching end\n")?)
 }
@@ -205,17 +195,4 @@ pub fn report(
     let lines = property_lines(alloc, book, base, new)?;
     let notices = all_notices(alloc, base.net, new.net)?;
     framed(alloc, sides.as_str(), lines.as_str(), notices.as_str())
-}
-
-fn is_certified(verdict: &Verdict) -> bool
-    ensures { result ≡ is_certified verdict.now }
-{
-    matches!(verdict, Verdict::Certified)
-}
-
-/// Whether every verdict is a certificate.
-pub fn are_certified(verdicts: &[Verdict]) -> bool
-    ensures { result ≡ are_certified verdicts.now }
-{
-    verdicts.iter().all(is_certified)
 }

@@ -1,8 +1,8 @@
 //! The text of each refusal.
 
 use crate::asserting::holds_at;
-use commands::{bundle_text, form_text};
 use net_types::{BundleRefusal, FormRefusal, NetRefusal, Prefix, ReadRefusal};
+use refusal_texts::{bundle_text, form_text};
 use std::alloc::Global;
 
 fn is_bundle_text(alloc: Global, refusal: BundleRefusal, wanted: &str) -> bool {

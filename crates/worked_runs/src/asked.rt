@@ -5,10 +5,11 @@ use crate::described::describe;
 use crate::ending::{Ending, ended_with, files_in};
 use crate::transfers::route_ending;
 use bundle_reader::read_bundle;
-use commands::{bundle_text, run};
+use commands::run;
 use frr_reader::read_router;
 use net_types::{BundleRefusal, List, NoMemory, SourceFile, Text};
 use outside::{MemShelf, MemSink};
+use refusal_texts::bundle_text;
 use std::alloc::Global;
 
 fn refused(

@@ -8,7 +8,7 @@ use Rattle.net_types.specs.declared.network.Router.{Router}
 use Rattle.net_types.specs.NetValue.{NetValue}
 use Rattle.net_types.specs.Arcs.{HasNoSession}
 use Rattle.topology.specs.Meaning.{HasAsn, SessionsHaveAsns}
-use Rattle.commands.specs.Ending.{first_speaker, speaks_bgp}
+use Rattle.judging.specs.Inputs.{first_speaker, speaks_bgp}
 
 none_found : (routers : List Router) (k : ℕ) (router : Router) → find speaks_bgp routers ≡ None → slice_get routers k ≡ Some router → speaks_bgp router ≡ false
 none_found [] k router none is = absurd (let e : None ≡ Some router = is in cc)

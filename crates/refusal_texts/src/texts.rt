@@ -1,7 +1,7 @@
-//! The texts of refusals.
+//! Why bundles and forms are refused, in words.
 
 ghost use Rattle.std.specs.Prelude.{◌≡◌, IfOk, codes, string_bytes};
-ghost use Rattle.commands.specs.Refusals.{at_line, bundle_text, file_name, form_text, net_text, no_bgp_yet, no_path_line, of_pair, read_text, refused_line, with_number};
+ghost use Rattle.refusal_texts.specs.Texts.{at_line, bundle_text, file_name, form_text, net_text, of_pair, read_text, with_number};
 
 use net_types::{
     BundleRefusal, FormRefusal, NetRefusal, NoMemory, ReadRefusal, SourceFile, prefix_text,
@@ -43,7 +43,7 @@ fn with_number(alloc: Global, cause: &str, number: u64) -> Result<String, NoMemo
     Ok(format!(in alloc; "{cause} {number}")?)
 }
 
-#[tactic(auto, unfolding(crate::specs::Refusals::read_text))]
+#[tactic(auto, unfolding(crate::specs::Texts::read_text))]
 fn read_text(alloc: Global, refusal: ReadRefusal) -> Result<String, NoMemory>
     ensures { IfOk result (λ text. string_bytes text ≡ read_text refusal) }
 {
@@ -62,7 +62,7 @@ fn read_text(alloc: Global, refusal: ReadRefusal) -> Result<String, NoMemory>
     }
 }
 
-#[tactic(auto, unfolding(crate::specs::Refusals::net_text))]
+#[tactic(auto, unfolding(crate::specs::Texts::net_text))]
 fn net_text(alloc: Global, files: &[SourceFile], refusal: NetRefusal) -> Result<String, NoMemory>
     ensures { IfOk result (λ text. string_bytes text ≡ net_text files.now refusal) }
 {
@@ -81,8 +81,12 @@ fn net_text(alloc: Global, files: &[SourceFile], refusal: NetRefusal) -> Result<
     }
 }
 
-/// Why the files of a folder are refused, with the names of the files.
-#[tactic(auto, unfolding(crate::specs::Refusals::bundle_text))]
+/// Why files make no network, with their names: `TooManyFiles 65`, `r1.conf: BadValue line 28`, `SameHost a.conf b.conf`.
+///
+/// # Errors
+///
+/// [`NoMemory`] where there was none for the text, or where that is what is refused.
+#[tactic(auto, unfolding(crate::specs::Texts::bundle_text))]
 pub fn bundle_text(
     alloc: Global,
     files: &[SourceFile],
@@ -103,8 +107,12 @@ pub fn bundle_text(
     }
 }
 
-/// Why a TOML file is refused.
-#[tactic(auto, unfolding(crate::specs::Refusals::form_text))]
+/// Why a TOML file is refused: `NotToml`, `BadField 3`.
+///
+/// # Errors
+///
+/// [`NoMemory`] where there was none for the text, or where that is what is refused.
+#[tactic(auto, unfolding(crate::specs::Texts::form_text))]
 pub fn form_text(alloc: Global, refusal: FormRefusal) -> Result<String, NoMemory>
     ensures { IfOk result (λ text. string_bytes text ≡ form_text refusal) }
 {
@@ -116,25 +124,4 @@ pub fn form_text(alloc: Global, refusal: FormRefusal) -> Result<String, NoMemory
         FormRefusal::TooMany(n) => with_number(alloc, "TooMany", n),
         FormRefusal::NoMemory => Err(NoMemory),
     }
-}
-
-/// Why a network with this router, which speaks BGP, is refused until that is analysed.
-pub fn no_bgp_yet(alloc: Global, host: &str) -> Result<String, NoMemory>
-    ensures { IfOk result (λ text. string_bytes text ≡ no_bgp_yet host.now) }
-{
-    Ok(format!(in alloc; "NoBgpYet {host}")?)
-}
-
-/// The line of a refused input: which one, and why.
-pub fn refused_line(alloc: Global, what: &str, cause: &str) -> Result<String, NoMemory>
-    ensures { IfOk result (λ text. string_bytes text ≡ refused_line what.now cause.now) }
-{
-    Ok(format!(in alloc; "refused: {what}: {cause}\n")?)
-}
-
-/// The line of a path that is not there.
-pub fn no_path_line(alloc: Global, path: &str) -> Result<String, NoMemory>
-    ensures { IfOk result (λ text. string_bytes text ≡ no_path_line path.now) }
-{
-    Ok(format!(in alloc; "refused: no such path {path}\n")?)
 }

@@ -1,0 +1,36 @@
+//! Why a change is not judged.
+
+use net_types::{BundleRefusal, BundleSide, FormRefusal, Text};
+use std::alloc::AllocError;
+
+/// Why a change is refused: the first of these that stands, the side before the change being first, and the book
+/// last. Files are numbered in the list of their side.
+#[derive(Debug, Drop)]
+pub enum JudgeRefusal {
+    /// The files of this side make no network.
+    Bundle(BundleSide, BundleRefusal),
+    /// A router of this side speaks BGP, which is not analysed yet: the first of them, by its host.
+    SpeaksBgp(BundleSide, Text),
+    /// The book is refused.
+    Book(FormRefusal),
+}
+
+/// Why a change is not judged.
+#[derive(Debug, Drop)]
+pub enum NotJudged {
+    /// It is refused.
+    Refused(JudgeRefusal),
+    /// There was no memory.
+    NoMemory,
+}
+
+impl From<AllocError> for NotJudged {
+    ghost use Rattle.std.specs.Prelude.{◌≡◌};
+    ghost use Rattle.judging.specs.declared.refusals.NotJudged.TheVariants.{NoMemory};
+
+    ghost from_gives = { λ _ why. why ≡ NoMemory };
+
+    fn from(_error: AllocError) -> NotJudged {
+        NotJudged::NoMemory
+    }
+}
