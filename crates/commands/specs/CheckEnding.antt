@@ -1,5 +1,5 @@
 -- How a check ends: the steps in their order, the first that refuses deciding, and the report.
-use Rattle.std.specs.Prelude.{ℕ, ◌≡◌, Bool, List as Seq, Result, Ok, Err}
+use Rattle.std.specs.Prelude.{ℕ, ◌≡◌, Bool, List as Seq, Result}
 use Rattle.net_types.specs.declared.config.SourceFile.{SourceFile}
 use Rattle.net_types.specs.declared.refusals.BundleSide.TheVariants.{Base, New}
 use Rattle.outside.specs.Content.{Content}

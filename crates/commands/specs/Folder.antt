@@ -1,5 +1,5 @@
 -- The configuration files of a folder, and what a shelf's content holds of them.
-use Rattle.std.specs.Prelude.{ℕ, nat_lt, nat_eq, Bool, List as Seq, [], ◌∷◌, ◌++◌, length, codes, filter, Option, Some, None, Result, Ok, Err, if◌then◌else◌}
+use Rattle.std.specs.Prelude.{ℕ, nat_lt, nat_eq, Bool, List as Seq, [], ◌∷◌, ◌++◌, length, codes, filter, Result, Ok, Err, if◌then◌else◌}
 use Rattle.std.specs.Option.{ok_or}
 use Rattle.std.specs.List.{ends_with}
 use Rattle.net_types.specs.declared.config.SourceFile.{SourceFile}

@@ -1,5 +1,5 @@
 -- How `stable` ends: the steps in their order, the first that refuses deciding, and the answer.
-use Rattle.std.specs.Prelude.{ℕ, ◌≡◌, Bool, true, false, List as Seq, codes, Result, Ok, Err}
+use Rattle.std.specs.Prelude.{ℕ, ◌≡◌, Bool, true, false, List as Seq, codes, Result, Ok}
 use Rattle.net_types.specs.declared.config.SourceFile.{SourceFile}
 use Rattle.net_types.specs.NetValue.{NetValue}
 use Rattle.net_types.specs.Numbering.{host_of}
