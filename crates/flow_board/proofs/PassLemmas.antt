@@ -4,9 +4,8 @@ use Rattle.std.proofs.lemmas.List.{length-replicate, get_or-replicate}
 use Rattle.std.proofs.lemmas.List.FromFn.{length-map-range_with_len, get_or-map-range_with_len}
 use Rattle.atomic_table.specs.Seated.{TableId}
 use Rattle.abstract_route.specs.declared.rows.Row.{Row}
-use Rattle.abstract_route.specs.Rows.{IsBelow, bottom, joined}
+use Rattle.abstract_route.specs.Rows.{IsBelow, bottom, joined, row_at}
 use Rattle.abstract_route.proofs.RowLemmas.{below_refl, below_trans, below_anti, join_left, join_right, join_least}
-use Rattle.flow_board.specs.RowLists.{row_at}
 use Rattle.flow_board.specs.declared.view.View.{View}
 use Rattle.flow_board.specs.RowWords.{start_of, roof_of, own_of, IsJoined, IsOpened}
 use Rattle.flow_board.specs.Pass.{Pass, BoardName, no_raises, both_raises}

@@ -7,10 +7,10 @@ use Rattle.std.specs.Int.{bit_at}
 use Rattle.std.proofs.lemmas.Nat.Bits.{bit_at-lt}
 use Rattle.abstract_route.specs.declared.rows.Row.{Row}
 use Rattle.net_types.specs.Sets.{has, IsPart}
-use Rattle.abstract_route.specs.Rows.{IsBelow, bottom, hull_of, joined}
+use Rattle.abstract_route.specs.Rows.{IsBelow, bottom, hull_of, joined, row_at}
 use Rattle.abstract_route.proofs.RowLemmas.{row_same, range_same}
 use Rattle.net_types.proofs.SetLemmas.{bit_from}
-use Rattle.flow_board.specs.RowLists.{row_at, AreBelow}
+use Rattle.flow_board.specs.RowLists.{AreBelow}
 use Rattle.std.proofs.lemmas.List.FromFn.{length-map-range_with_len, get_or-map-range_with_len}
 use Rattle.flow_board.specs.Order.{Kind, kind_at, kind_of, Below, merged, AllBelow}
 use Rattle.flow_board.specs.RowWords.{row_words, words_of, row_from, rows_of}

@@ -3,8 +3,8 @@ use Rattle.std.proofs.Common.{◌≡◌, ◌≢◌, ℕ, zero, suc, ◌+◌, ◌
 use Rattle.std.proofs.Math.Nat.{div-add-mod}
 use Rattle.std.proofs.lemmas.List.{get_or-append_right, get_or_append_left}
 use Rattle.abstract_route.specs.declared.rows.Row.{Row}
-use Rattle.abstract_route.specs.Rows.{IsBelow, IsRow, bottom, joined}
-use Rattle.flow_board.specs.RowLists.{row_at, AreBelow, AreRows}
+use Rattle.abstract_route.specs.Rows.{IsBelow, IsRow, bottom, joined, row_at}
+use Rattle.flow_board.specs.RowLists.{AreBelow, AreRows}
 use Rattle.flow_board.specs.declared.view.View.{View}
 use Rattle.flow_board.specs.declared.view.View.TheVariants.{Alone, Live, Spent}
 use Rattle.flow_board.specs.Order.{Kind, kind_at, kind_of, Below, merged, AllBelow, least, blank}

@@ -1,9 +1,8 @@
 -- What is true of all raises.
 use Rattle.std.specs.Prelude.{ℕ, ◌≡◌, ◌<◌, ◌↔◌, List, length}
 use Rattle.abstract_route.specs.declared.rows.Row.{Row}
-use Rattle.abstract_route.specs.Rows.{IsBelow, joined}
+use Rattle.abstract_route.specs.Rows.{IsBelow, joined, row_at}
 use Rattle.flow_board.specs.Pass.{IsMet, Pass, both_raises}
-use Rattle.flow_board.specs.RowLists.{row_at}
 
 -- a raise changes nothing of the words that it met exactly where its row is below them
 abbrev pub RaiseIsSeen : Type 0

@@ -3,8 +3,8 @@ use Rattle.std.specs.Prelude.{ℕ, ◌≡◌, List, length, map, replicate, slic
 use Rattle.std.specs.List.{range_with_len}
 use Rattle.atomic_table.specs.Seated.{TableId}
 use Rattle.abstract_route.specs.declared.rows.Row.{Row}
-use Rattle.abstract_route.specs.Rows.{IsBelow, bottom, joined}
-use Rattle.flow_board.specs.RowLists.{AreBelow, AreRows, row_at}
+use Rattle.abstract_route.specs.Rows.{IsBelow, bottom, joined, row_at}
+use Rattle.flow_board.specs.RowLists.{AreBelow, AreRows}
 
 -- One thread's pass to one board: the rows that the board began with, the rows that it stays below, and what the
 -- thread has raised itself. Start and roof are the same in all passes to a board.

@@ -1,11 +1,7 @@
 -- Rows of all routers, in order of their numbers. All of this is the project's own.
-use Rattle.std.specs.Prelude.{ℕ, ◌≡◌, ◌<◌, List, length, slice_index_or}
+use Rattle.std.specs.Prelude.{ℕ, ◌≡◌, ◌<◌, List, length}
 use Rattle.abstract_route.specs.declared.rows.Row.{Row}
-use Rattle.abstract_route.specs.Rows.{IsBelow, IsRow, bottom}
-
--- a router's row; past the end, the row of no route
-abbrev pub row_at : List Row → ℕ → Row
-row_at rows u = slice_index_or rows u bottom
+use Rattle.abstract_route.specs.Rows.{IsBelow, IsRow, row_at}
 
 -- each row is below that of the same router
 pub record AreBelow (a b : List Row) : Type 0 where

@@ -3,8 +3,8 @@
 use Rattle.std.specs.Prelude.{◌≡◌, ℕ, ◌+◌, ◌*◌, ◌<◌, List, [], ◌∷◌, ◌++◌, length, map, slice_index, slice_set}
 use Rattle.std.specs.List.{range_with_len}
 use Rattle.abstract_route.specs.declared.rows.Row.{Row}
-use Rattle.abstract_route.specs.Rows.{IsBelow, bottom, joined}
-use Rattle.flow_board.specs.RowLists.{AreBelow, AreRows, row_at}
+use Rattle.abstract_route.specs.Rows.{IsBelow, bottom, joined, row_at}
+use Rattle.flow_board.specs.RowLists.{AreBelow, AreRows}
 use Rattle.flow_board.specs.declared.view.View.{View}
 use Rattle.flow_board.specs.declared.view.View.TheVariants.{Live}
 

@@ -1,9 +1,9 @@
 //! What callers see of a board: rows alone.
 
 ghost use Rattle.std.specs.Prelude.{◌≡◌, ◌<◌, ◌≤◌, IfOk, length};
-ghost use Rattle.abstract_route.specs.Rows.{IsBelow, IsRow};
+ghost use Rattle.abstract_route.specs.Rows.{IsBelow, IsRow, row_at};
 ghost use Rattle.flow_board.specs.Pass.{IsClosed, IsMet, both_raises, no_raises, raised};
-ghost use Rattle.flow_board.specs.RowLists.{AreBelow, row_at};
+ghost use Rattle.flow_board.specs.RowLists.{AreBelow};
 
 use crate::view::View;
 use crate::words::{Roof, Words};

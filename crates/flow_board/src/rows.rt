@@ -1,8 +1,8 @@
 //! Rows as fourteen words each, and what the steps on words make of rows.
 
 ghost use Rattle.std.specs.Prelude.{◌≡◌, ◌<◌, ◌≤◌, ◌+◌, ◌^◌, IfOk, [], length, slice_index};
-ghost use Rattle.abstract_route.specs.Rows.{IsBelow, IsRow};
-ghost use Rattle.flow_board.specs.RowLists.{AreBelow, row_at};
+ghost use Rattle.abstract_route.specs.Rows.{IsBelow, IsRow, row_at};
+ghost use Rattle.flow_board.specs.RowLists.{AreBelow};
 ghost use Rattle.flow_board.specs.RowWords.{IsClosed, IsJoined, IsMet, IsOpened, IsRaised, IsReady, roof_of, row_from, row_words, words_of};
 
 use crate::view::View;

@@ -1,7 +1,6 @@
 use Rattle.std.proofs.Common.{arith, rules, ap, ◌≡◌, ◌<◌, ◌+◌, ◌++◌, ◌*◌, ◌∷◌, [], ℕ, List, length, length-append, sym, subst, ◌∙◌}
 use Rattle.abstract_route.specs.declared.rows.Row.{Row}
-use Rattle.abstract_route.specs.Rows.{IsRow}
-use Rattle.flow_board.specs.RowLists.{row_at}
+use Rattle.abstract_route.specs.Rows.{IsRow, row_at}
 use Rattle.flow_board.specs.RowWords.{row_from}
 use Rattle.flow_board.proofs.ViewLemmas.{closed_rows, next_row}
 use Rattle.flow_board.proofs.words.Words.close.Goals as goal

@@ -1,6 +1,5 @@
 use Rattle.std.proofs.Common.{◌≡◌, ◌<◌, ◌*◌, ℕ, length}
-use Rattle.abstract_route.specs.Rows.{IsRow}
-use Rattle.flow_board.specs.RowLists.{row_at}
+use Rattle.abstract_route.specs.Rows.{IsRow, row_at}
 use Rattle.flow_board.specs.RowWords.{row_from}
 use Rattle.flow_board.proofs.words.Words.close.Given as goal
 
