@@ -5,6 +5,8 @@
 #[cfg(test)]
 mod asserting;
 #[cfg(test)]
+mod boards;
+#[cfg(test)]
 mod bundles;
 #[cfg(test)]
 mod failures;

@@ -13,7 +13,7 @@ use net_types::{Arc, Bits64, List, Origin, Route, Source};
 const ZERO: Range = Range { low: 0, high: 0 };
 
 /// The row of the route that a router originates by a `network` line.
-const LOCAL: Row = Row {
+pub const LOCAL: Row = Row {
     weight: Range {
         low: 32768,
         high: 32768,
