@@ -3,6 +3,7 @@
 use crate::cases::{Asked, Case};
 use crate::described::describe;
 use crate::ending::{Ending, ended_with, files_in};
+use crate::rows::row_ending;
 use crate::transfers::route_ending;
 use bundle_reader::read_bundle;
 use commands::run;
@@ -11,6 +12,7 @@ use net_types::{BundleRefusal, List, NoMemory, SourceFile, Text};
 use outside::{MemShelf, MemSink};
 use refusal_texts::bundle_text;
 use std::alloc::Global;
+use std::thread::Threads;
 
 fn refused(
     alloc: Global,
@@ -76,21 +78,31 @@ fn run_ending(alloc: Global, case: &Case, words: &str) -> Result<Ending, NoMemor
 }
 
 // How a question ends; one that is not known is said to be none.
-fn question_ending(alloc: Global, case: &Case, words: &str) -> Result<Ending, NoMemory> {
+fn question_ending<R: Threads + Sync>(
+    rt: &R,
+    alloc: Global,
+    case: &Case,
+    words: &str,
+) -> Result<Ending, NoMemory> {
     match words.split_once(' ') {
         None if words == "read" => read_ending(alloc, case, false),
         None if words == "config" => read_ending(alloc, case, true),
         Some(("network", folder)) => network_ending(alloc, case, folder),
         Some(("route", asked)) => route_ending(alloc, case, asked),
+        Some(("row", asked)) => row_ending(rt, alloc, case, asked),
         _ => ended_with(alloc, 2, "no question\n"),
     }
 }
 
 /// How the case ends, if it asks something.
-pub fn ending_of(alloc: Global, case: &Case) -> Result<Option<Ending>, NoMemory> {
+pub fn ending_of<R: Threads + Sync>(
+    rt: &R,
+    alloc: Global,
+    case: &Case,
+) -> Result<Option<Ending>, NoMemory> {
     Ok(match &case.asked {
         Asked::Nothing => None,
         Asked::Run(words) => Some(run_ending(alloc, case, words.as_str())?),
-        Asked::Question(words) => Some(question_ending(alloc, case, words.as_str())?),
+        Asked::Question(words) => Some(question_ending(rt, alloc, case, words.as_str())?),
     })
 }

@@ -2,7 +2,8 @@
 //!
 //! Decides: how a case is written, and which of them end otherwise.
 //! Stands on: `commands` for what a run does, `outside` for files and output in memory, `bundle_reader` and
-//! `frr_reader` for networks and single files, `label_file`, `ospf_paths` and `concrete_algebra` for routes.
+//! `frr_reader` for networks and single files, `label_file`, `ospf_paths` and `concrete_algebra` for routes,
+//! `abstract_maps` and `possible_fixpoint` for rows.
 //! Promises: nothing of its own; it is a test, to which a case is added without a proof. It prints how many cases a
 //! table has, and each that ends otherwise than it says, with how it ends.
 //!
@@ -25,14 +26,19 @@
 //! what becomes of the labels of the file `labels` in the network of `net/`: `labels`, what is read; `export` or `import`
 //! with a link and `up` or `down`, what is sent of the sender's label, and what is taken in of it, as if it had been sent;
 //! `map`, what the first map of the first router gives of its label; `origin`, with OSPF's distance or none, what that
-//! router originates; `paths`, the distance of each router, and which arcs are tight and which go to next hops.
+//! router originates; `paths`, the distance of each router, and which arcs are tight and which go to next hops; `row` and
+//! a further word, rows of the prefix and the failed links of that file in that network: `local`, those of the local
+//! routes; `possible`, of what each router may hold, nothing being dropped; `transfer` with a link and `up` or `down`, what
+//! that arc makes of its sender's; `passes`, whether passes over all arcs find the same as the solver.
 #![tactic(auto)]
 
 mod asked;
 mod cases;
 mod described;
 mod ending;
+mod labelling;
 mod lines;
+mod rows;
 mod table;
 mod transfers;
 
@@ -44,6 +50,7 @@ use std::alloc::Global;
 use std::env;
 use std::fs::{self, Files};
 use std::io::{self, ErrorKind, Write};
+use std::thread::Threads;
 use table::table_of;
 
 // Whether a case ends as it says.
@@ -53,8 +60,8 @@ fn is_as_wanted(case: &Case, ending: &Ending) -> bool {
 }
 
 // Prints how the case ends, where it does not end as it says.
-fn judge(rt: &impl Print, alloc: Global, case: &Case) -> io::Result<()> {
-    match ending_of(alloc, case) {
+fn judge(rt: &(impl Print + Threads + Sync), alloc: Global, case: &Case) -> io::Result<()> {
+    match ending_of(rt, alloc, case) {
         Ok(Some(ending)) => {
             if is_as_wanted(case, &ending) {
                 return Ok(());
@@ -68,7 +75,7 @@ fn judge(rt: &impl Print, alloc: Global, case: &Case) -> io::Result<()> {
 }
 
 // Judges a case whose lines are all understood; of another one prints the first line that is not.
-fn run_case(rt: &impl Print, alloc: Global, case: &Case) -> io::Result<()> {
+fn run_case(rt: &(impl Print + Threads + Sync), alloc: Global, case: &Case) -> io::Result<()> {
     match &case.misread {
         Some(line) => println!(rt; "== {}\nmisread: {line}", case.name),
         None => judge(rt, alloc, case),
@@ -76,7 +83,10 @@ fn run_case(rt: &impl Print, alloc: Global, case: &Case) -> io::Result<()> {
 }
 
 // Runs the cases of a table, and prints how many there are, and how many of them are there for their files alone.
-fn run_table(rt: &(impl Print + Files + AllocGlobal), path: &str) -> io::Result<()> {
+fn run_table(
+    rt: &(impl Print + Files + AllocGlobal + Threads + Sync),
+    path: &str,
+) -> io::Result<()> {
     let alloc = rt.alloc();
     let text = fs::read_to_string(rt, path)?;
     let Ok(cases) = table_of(alloc, text.as_str()) else {

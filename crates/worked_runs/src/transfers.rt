@@ -1,21 +1,13 @@
 //! What routes become, and how far routers are from a prefix, in a network with the labels of its routers.
 
 use crate::cases::Case;
-use crate::ending::{Ending, ended_with, files_in};
+use crate::ending::{Ending, ended_with};
+use crate::labelling::{Labelling, Said, arc_of, said_of};
 use crate::lines::number_of;
-use bundle_reader::read_bundle;
 use concrete_algebra::{export, import, local_route, run_map};
-use label_file::{Labels, read_labels};
-use net_types::{Arc, Net, NoMemory, Policy, Route};
+use net_types::{Arc, NoMemory, Policy, Route};
 use ospf_paths::{distances, is_next_hop, is_tight};
 use std::alloc::Global;
-
-// A network, and what its label file says.
-#[derive(Drop)]
-struct Labelling {
-    net: Net,
-    labels: Labels,
-}
 
 // What is asked of a labelling.
 #[derive(Clone, Copy)]
@@ -32,16 +24,6 @@ enum Question {
     Labels,
     /// The distance of each router, and which arcs are tight or go to next hops.
     Paths,
-}
-
-fn arc_of(text: &str) -> Option<Arc> {
-    let (link, way) = text.split_once(' ')?;
-    let link = u8::try_from(number_of(link)?).ok()?;
-    match way {
-        "up" => Some(Arc { link, down: false }),
-        "down" => Some(Arc { link, down: true }),
-        _ => None,
-    }
 }
 
 fn question_of(words: &str) -> Option<Question> {
@@ -209,27 +191,16 @@ impl Labelling {
     }
 }
 
-// The text of the file of the labels, without a byte where there is none.
-fn label_text(case: &Case) -> &str {
-    let file = case
-        .files
-        .iter()
-        .find(|file| file.path.as_str() == "labels");
-    file.map_or("", |file| file.text.as_str())
-}
-
 /// How a case ends that asks what becomes of the labels of the file `labels`, in the network of the files in `net/`.
 pub fn route_ending(alloc: Global, case: &Case, words: &str) -> Result<Ending, NoMemory> {
     let Some(question) = question_of(words) else {
         return ended_with(alloc, 2, "no question\n");
     };
-    let files = files_in(alloc, case.files.as_slice(), "net/")?;
-    let Ok(net) = read_bundle(alloc, files.as_slice()) else {
-        return ended_with(alloc, 2, "no network\n");
-    };
-    let Ok(labels) = read_labels(alloc, &net, label_text(case).as_bytes()) else {
-        return ended_with(alloc, 2, "no labels\n");
-    };
-    let labelling = Labelling { net, labels };
-    ended_with(alloc, 0, labelling.answer(alloc, question)?.as_str())
+    match said_of(alloc, case)? {
+        Said::Labelling(labelling) => {
+            let text = labelling.answer(alloc, question)?;
+            ended_with(alloc, 0, text.as_str())
+        }
+        Said::Nothing(why) => ended_with(alloc, 2, why),
+    }
 }
