@@ -1,0 +1,4 @@
+pub mod HeadLemmas
+pub mod RestoreLemmas
+pub mod OutLemmas
+pub mod IndexLemmas

@@ -1,0 +1,5 @@
+use Rattle.stored_rows.proofs.OutLemmas.{good_tables}
+use Rattle.stored_rows.proofs.laws.law_of_stored_rows.Goals as goal
+
+pub returns : goal.returns
+returns c = good_tables
