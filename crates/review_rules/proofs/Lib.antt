@@ -1,0 +1,9 @@
+pub mod RuleLemmas
+pub mod AcceptLemmas
+pub mod IndexLemmas
+pub mod ValidLemmas
+pub mod ChangeLemmas
+pub mod TakeLemmas
+pub mod RepeatLemmas
+pub mod JudgeLemmas
+pub mod HeadsLemmas

@@ -1,0 +1,31 @@
+use Rattle.std.proofs.Common.{◌≡◌, ◌++◌, ◌∷◌, [], refl, ap, sym, subst, ◌∙◌, rules, arith, List, ℕ}
+use Rattle.desk_tables.specs.declared.rows.Rows.{Rows}
+use Rattle.desk_tables.specs.declared.rows.KeptRow.{KeptRow}
+use Rattle.desk_tables.specs.Tables.{bytes_of}
+use Rattle.desk_tables.specs.Valid.{IsDesk}
+use Rattle.review_rules.specs.State.{Held}
+use Rattle.review_rules.specs.Changes.{made, heads_of, CanBeMade}
+use Rattle.review_rules.specs.declared.changes.Change.{Change}
+use Rattle.review_rules.specs.declared.changes.ChangeKind.TheVariants.{Policy, Review, Certificate, Approval, Merge as MergeKind, Withdraw as WithdrawKind}
+use Rattle.review_rules.proofs.TakeLemmas.{take_merge_is, desk_taken, open_up_to}
+use Rattle.review_rules.proofs.desk.Desk.take_merge.Goals as goal
+
+pub merge_review-requires-clause-there : goal.merge_review-requires-clause-there
+merge_review-requires-clause-there c =
+    let d = c.self.inside in
+    let t : Rows = record { policies = d.policies.items; reviews = d.reviews.items; files = d.files.items; approvals = d.approvals.items; certificates = d.certificates.items; kept = d.kept.items } in
+    let same : t ≡ c.args.self.now.state.tables = ap (λ (h : Held). h.state.tables) c.self.view_is in
+    let change : Change = record { kind = MergeKind c.args.review c.args.head; kept = c.args.kept } in
+    let can : CanBeMade change t = subst (CanBeMade change) (sym same) c.requires.can in
+    open_up_to t c.args.review c.self.invariant.0.valid can.rows.1
+
+pub invariant_of-self : goal.invariant_of-self
+invariant_of-self c =
+    let d = c.self.inside in
+    let t : Rows = record { policies = d.policies.items; reviews = d.reviews.items; files = d.files.items; approvals = d.approvals.items; certificates = d.certificates.items; kept = d.kept.items } in
+    let same : t ≡ c.args.self.now.state.tables = ap (λ (h : Held). h.state.tables) c.self.view_is in
+    let change : Change = record { kind = MergeKind c.args.review c.args.head; kept = c.args.kept } in
+    let can : CanBeMade change t = subst (CanBeMade change) (sym same) c.requires.can in
+    let is = take_merge_is t c.args.review c.args.head c.args.kept c.merge_review.new.rows.items c.add_kept.new.rows.items c.self.invariant.0.valid can c.merge_review.ensures c.add_kept.ensures in
+    let sum : c.args.bytes ≡ bytes_of (made change t) = c.requires.sum ∙ ap (λ (u : Rows). bytes_of (made change u)) (sym same) in
+    (desk_taken t change d.heads.items c.add_head.new.heads.items d.bytes c.args.bytes _ c.self.invariant.0 can sum is c.add_head.ensures, search rules, search rules, search rules, search rules, search rules, search rules, search rules)
