@@ -89,10 +89,10 @@ unfolding is_beaten
 is_beaten_is round u candidate =
     ap (λ b. local_beats round u candidate || b)
     (any_same (λ link. arc_beats round u candidate (up_of link) || arc_beats round u candidate (down_of link))
-        (λ link. either_beats u candidate (arrivals_over round (certain_set round) link)) (range_with_len 0 (length round.net.links))
-        (λ link. either_same (arc_beats round u candidate (up_of link)) (arc_beats round u candidate (down_of link))
-            (arrival_beats u candidate (arrival_of round (certain_set round) (up_of link))) (arrival_beats u candidate (arrival_of round (certain_set round) (down_of link)))
-            (arc_beats_is round u candidate (up_of link)) (arc_beats_is round u candidate (down_of link))) ∙
+    (λ link. either_beats u candidate (arrivals_over round (certain_set round) link)) (range_with_len 0 (length round.net.links))
+    (λ link. either_same (arc_beats round u candidate (up_of link)) (arc_beats round u candidate (down_of link))
+    (arrival_beats u candidate (arrival_of round (certain_set round) (up_of link))) (arrival_beats u candidate (arrival_of round (certain_set round) (down_of link)))
+    (arc_beats_is round u candidate (up_of link)) (arc_beats_is round u candidate (down_of link))) ∙
     sym (any_mapped (either_beats u candidate) (arrivals_over round (certain_set round)) (range_with_len 0 (length round.net.links))))
 
 -- ---- dropping
@@ -146,8 +146,8 @@ pub arrival_inside : (round : Round) (certain : ℕ) (arc : Arc) → IsNet round
 unfolding arrival_of
 arrival_inside round certain arc valid =
     inside_parts round certain arc (is_up round.net round.failed arc) (sender_of round.net arc) (receiver_of round.net arc) (λ w up to.
-        let routing : IsRouting (problem_at round) = networks_route round.net round.prefix round.failed round.distances valid in
-        subst (λ (x : ℕ). x < length round.net.routers) (ap (λ (o : Option ℕ). unwrap_or o 0) to) (routing.receiver arc up))
+    let routing : IsRouting (problem_at round) = networks_route round.net round.prefix round.failed round.distances valid in
+    subst (λ (x : ℕ). x < length round.net.routers) (ap (λ (o : Option ℕ). unwrap_or o 0) to) (routing.receiver arc up))
 
 on_way : (round : Round) (certain link : ℕ) (down : Bool) → arriving down (arrivals_over round certain link) ≡ arrival_of round certain (record { link = link; down = down })
 on_way round certain link false = refl
@@ -173,13 +173,13 @@ stands round certain arc None is valid = sym (past_links round certain arc valid
 stands round certain arc (Some over) is valid =
     ap (arriving arc.down)
     (sym (get_or_from_slice_get (arrivals_of round certain) arc.link over over is) ∙
-      get_or-map-range_with_len (arrivals_over round certain) 0 (length round.net.links) arc.link arc.link over low (omega arith)) ∙
+    get_or-map-range_with_len (arrivals_over round certain) 0 (length round.net.links) arc.link arc.link over low (omega arith)) ∙
     on_way round certain arc.link arc.down where
-  low : arc.link < length round.net.links
-  low = elim (slice_get_cases (arrivals_of round certain) arc.link).1 [
-    | inl (x, l, there, same) ↦ (let e = length-map-range_with_len (arrivals_over round certain) 0 (length round.net.links) in omega arith)
-    | inr (high, there) ↦ absurd (let f : None ≡ Some over = sym there ∙ is in cc)
-  ]
+      low : arc.link < length round.net.links
+      low = elim (slice_get_cases (arrivals_of round certain) arc.link).1 [
+        | inl (x, l, there, same) ↦ (let e = length-map-range_with_len (arrivals_over round certain) 0 (length round.net.links) in omega arith)
+        | inr (high, there) ↦ absurd (let f : None ≡ Some over = sym there ∙ is in cc)
+      ]
 
 -- what is found of an arc
 found_arrival : (found : Found) → AreFound found → IsNet found.reading.now.net.now → (arc : Arc) (o : Option Arrival) →
@@ -211,6 +211,6 @@ pub drops_own : (found : Found) → AreFound found → IsNet found.reading.now.n
 drops_own found are valid u low local is =
     ap (λ (c : Candidate). inhabited c.row && (local_beats (round_read found.reading.now) u c || arrivals_beat u c found.arrivals.now)) is ∙
     ap (λ (b : Bool). b && (local_beats (round_read found.reading.now) u (local_candidate (round_read found.reading.now) u) || arrivals_beat u (local_candidate (round_read found.reading.now) u) found.arrivals.now))
-        (originates_is found.reading.now.net.now found.reading.now.prefix u (distance_at found.reading.now.distances.now u) valid low) ∙
+    (originates_is found.reading.now.net.now found.reading.now.prefix u (distance_at found.reading.now.distances.now u) valid low) ∙
     ap (λ (xs : List Arrivals). is_some (local_at (round_read found.reading.now) u) && (local_beats (round_read found.reading.now) u (local_candidate (round_read found.reading.now) u) || arrivals_beat u (local_candidate (round_read found.reading.now) u) xs)) (all_found found are) ∙
     sym (drops_local_is (round_read found.reading.now) u)

@@ -48,14 +48,14 @@ unfolding result_of
 results_are_certain net prefix failed valid labels stable u member =
     let sound = result_is_sound net prefix failed (distance_list net prefix failed) labels valid (distance_list_is net prefix failed valid) stable in
     holds (round_of net prefix failed (distance_list net prefix failed) (last_alive net prefix failed (distance_list net prefix failed))) sound.1 member where
-  holds : (round : Rattle.certain_fixpoint.specs.Certain.Round) → IsSound round labels → has (certain_set round) u ≡ true → (route : Route) × (label_at labels u ≡ Some route)
-  holds round sound member = certain_routers_hold round labels sound u ((certain_set_is round sound.valid u (certain_inside round u member)).0 member)
+      holds : (round : Rattle.certain_fixpoint.specs.Certain.Round) → IsSound round labels → has (certain_set round) u ≡ true → (route : Route) × (label_at labels u ≡ Some route)
+      holds round sound member = certain_routers_hold round labels sound u ((certain_set_is round sound.valid u (certain_inside round u member)).0 member)
 
 pub results_drop_nothing_held : ResultsDropNothingHeld
 unfolding result_of
 results_drop_nothing_held net prefix failed valid labels stable rounds =
     (rounds_are_sound net prefix failed (distance_list net prefix failed) labels valid (distance_list_is net prefix failed valid) stable rounds
-        (alive_after net prefix failed (distance_list net prefix failed) rounds) (after_rounds net prefix failed (distance_list net prefix failed) valid rounds)).0
+    (alive_after net prefix failed (distance_list net prefix failed) rounds) (after_rounds net prefix failed (distance_list net prefix failed) valid rounds)).0
 
 pub contains_if : (net : NetValue) (prefix : PrefixValue) (failed : List ℕ) (found : CaseValue) → IsNet net → found ≡ result_of net prefix failed → Contains net prefix failed found
 contains_if net prefix failed found valid e = subst (λ (r : CaseValue). Contains net prefix failed r) (sym e) (results_contain net prefix failed valid)
@@ -72,10 +72,10 @@ pub possible_rows_short : (net : NetValue) (prefix : PrefixValue) (failed : List
     AreDistances net prefix failed distances → All IsShort (possible (flow_of net prefix failed distances alive))
 possible_rows_short net prefix failed distances alive valid are =
     All-from_get_or IsShort (possible (flow_of net prefix failed distances alive)) bottom (λ u low.
-        let least = possible_is_least (flow_of net prefix failed distances alive) (flow_is_lawful net prefix failed distances alive valid are) in
-        let few : u < length net.routers = subst (λ (n : ℕ). u < n) least.solves.long low in
-        possible_is_short net prefix failed distances alive u (row_at (possible (flow_of net prefix failed distances alive)) u) valid few
-        (below_refl (row_at (possible (flow_of net prefix failed distances alive)) u)))
+    let least = possible_is_least (flow_of net prefix failed distances alive) (flow_is_lawful net prefix failed distances alive valid are) in
+    let few : u < length net.routers = subst (λ (n : ℕ). u < n) least.solves.long low in
+    possible_is_short net prefix failed distances alive u (row_at (possible (flow_of net prefix failed distances alive)) u) valid few
+    (below_refl (row_at (possible (flow_of net prefix failed distances alive)) u)))
 
 pub short_if : (net : NetValue) (prefix : PrefixValue) (failed : List ℕ) (distances : List (Option ℕ)) (alive : Alive) (rows : List Row) → IsNet net →
     AreDistances net prefix failed distances → rows ≡ possible (flow_of net prefix failed distances alive) → All IsShort rows
@@ -141,12 +141,12 @@ pub amount_falls : (net : NetValue) (prefix : PrefixValue) (failed : List ℕ) (
 amount_falls net prefix failed distances alive turn r differs =
     subst (λ (a : Alive). amount a < amount alive) (sym r.now.next)
     (less (step (round_of net prefix failed distances alive) alive) (step_falls (round_of net prefix failed distances alive) alive) (λ e. differs (r.now.next ∙ e))) where
-  less : (next : Alive) → (next.up ≤ alive.up) × (next.down ≤ alive.down) × (next.locals ≤ alive.locals) → (next ≡ alive → ⊥) → amount next < amount alive
-  less next low apart = elim (compare (amount next) (amount alive)) [
-    | inl same ↦ absurd (apart (same_alive next alive (omega arith) (omega arith) (omega arith)))
-    | inr (inl below) ↦ below
-    | inr (inr above) ↦ absurd (omega arith)
-  ]
+      less : (next : Alive) → (next.up ≤ alive.up) × (next.down ≤ alive.down) × (next.locals ≤ alive.locals) → (next ≡ alive → ⊥) → amount next < amount alive
+      less next low apart = elim (compare (amount next) (amount alive)) [
+        | inl same ↦ absurd (apart (same_alive next alive (omega arith) (omega arith) (omega arith)))
+        | inr (inl below) ↦ below
+        | inr (inr above) ↦ absurd (omega arith)
+      ]
 
 -- ---- the whole
 
@@ -158,6 +158,6 @@ result_made net prefix failed distances alive turn valid are last is =
     made turn.rows turn.certain is.rows is.certain ∙
     ap (λ (a : Alive). result_at net prefix failed distances a) last ∙
     ap (λ (ds : List (Option ℕ)). result_at net prefix failed ds (last_alive net prefix failed ds)) (distances_are_one net prefix failed distances (distance_list net prefix failed) are (distance_list_is net prefix failed valid)) where
-  made : (rows : List Row) (certain : ℕ) → rows ≡ possible (flow_of net prefix failed distances alive) → certain ≡ certain_set (round_of net prefix failed distances alive) →
-      (record { rows = rows; certain = certain; alive = alive; distances = distances }) ≡ result_at net prefix failed distances alive
-  made rows certain e f = λ i. record { rows = e i; certain = f i; alive = alive; distances = distances }
+      made : (rows : List Row) (certain : ℕ) → rows ≡ possible (flow_of net prefix failed distances alive) → certain ≡ certain_set (round_of net prefix failed distances alive) →
+          (record { rows = rows; certain = certain; alive = alive; distances = distances }) ≡ result_at net prefix failed distances alive
+      made rows certain e f = λ i. record { rows = e i; certain = f i; alive = alive; distances = distances }
