@@ -10,6 +10,7 @@ ghost use Rattle.net_types.specs.declared.config.MapEntry.{MapEntry as MapEntryV
 ghost use Rattle.frr_reader.specs.Entries.{place_for, put, with_prefix_entry, with_community_entry, with_map_entry, entries_at, entry_at, with_entry_at};
 
 use crate::values::is_same;
+use frr_policy::Numbered;
 use net_types::{
     CommunityEntry, CommunityList, Interface, List, MapEntry, PrefixEntry, PrefixList, RouteMap,
     Text,
@@ -66,39 +67,6 @@ pub fn place_of<T: Named>(items: &[T], name: &[u8]) -> usize
         .iter()
         .take_while(|item| !is_same(item.name(), name))
         .count()
-}
-
-/// An entry of a list or a map.
-pub trait Numbered {
-    ghost seq_of: { Self → ℕ };
-
-    /// The sequence number.
-    fn seq(&self) -> u32
-        ensures { result ≡ seq_of self.now };
-}
-
-impl Numbered for PrefixEntry {
-    ghost seq_of = { λ e. e.seq };
-
-    fn seq(&self) -> u32 {
-        self.seq
-    }
-}
-
-impl Numbered for CommunityEntry {
-    ghost seq_of = { λ e. e.seq };
-
-    fn seq(&self) -> u32 {
-        self.seq
-    }
-}
-
-impl Numbered for MapEntry {
-    ghost seq_of = { λ e. e.seq };
-
-    fn seq(&self) -> u32 {
-        u32::from(self.seq)
-    }
 }
 
 fn is_behind<E: Numbered>(entry: &E, number: u32) -> bool
