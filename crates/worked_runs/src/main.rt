@@ -3,7 +3,7 @@
 //! Decides: how a case is written, and which of them end otherwise.
 //! Stands on: `commands` for what a run does, `outside` for files and output in memory, `bundle_reader` and
 //! `frr_reader` for networks and single files, `label_file`, `ospf_paths` and `concrete_algebra` for routes,
-//! `abstract_maps` and `possible_fixpoint` for rows.
+//! `abstract_maps`, `possible_fixpoint` and `refine_rounds` for rows.
 //! Promises: nothing of its own; it is a test, to which a case is added without a proof. It prints how many cases a
 //! table has, and each that ends otherwise than it says, with how it ends.
 //!
@@ -29,7 +29,8 @@
 //! router originates; `paths`, the distance of each router, and which arcs are tight and which go to next hops; `row` and
 //! a further word, rows of the prefix and the failed links of that file in that network: `local`, those of the local
 //! routes; `possible`, of what each router may hold, nothing being dropped; `transfer` with a link and `up` or `down`, what
-//! that arc makes of its sender's; `passes`, whether passes over all arcs find the same as the solver.
+//! that arc makes of its sender's; `passes`, whether passes over all arcs find the same as the solver; `result`, the certain
+//! routers, what is alive, and the rows of the last round.
 #![tactic(auto)]
 
 mod asked;
@@ -38,6 +39,7 @@ mod described;
 mod ending;
 mod labelling;
 mod lines;
+mod results;
 mod rows;
 mod table;
 mod transfers;

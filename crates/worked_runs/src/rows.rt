@@ -6,6 +6,7 @@ ghost use Rattle.abstract_maps.specs.AbstractMap.{IsShort};
 use crate::cases::Case;
 use crate::ending::{Ending, ended_with};
 use crate::labelling::{Labelling, Said, arc_of, said_of};
+use crate::results::{result_of, sets_text};
 use abstract_maps::{local_row, transfer};
 use abstract_route::{BOTTOM, Range, Row, carried, is_below, is_inhabited, join};
 use net_types::{Arc, Bits64, List, NoMemory, distance_at};
@@ -26,6 +27,8 @@ enum Question {
     Transfer(Arc),
     /// Whether passes over all arcs, until one changes nothing, find what each router may hold.
     Passes,
+    /// What the rounds leave: the certain routers, what is alive, and the rows of the last round.
+    Result,
 }
 
 fn question_of(words: &str) -> Option<Question> {
@@ -33,6 +36,7 @@ fn question_of(words: &str) -> Option<Question> {
         None if words == "local" => Some(Question::Local),
         None if words == "possible" => Some(Question::Possible),
         None if words == "passes" => Some(Question::Passes),
+        None if words == "result" => Some(Question::Result),
         Some(("transfer", arc)) => Some(Question::Transfer(arc_of(arc)?)),
         _ => None,
     }
@@ -190,6 +194,14 @@ impl Labelling {
         }
     }
 
+    // What the rounds leave.
+    fn result_text<R: Threads + Sync>(&self, rt: &R, alloc: Global) -> Result<String, NoMemory> {
+        let result = result_of(rt, alloc, self)?;
+        let sets = sets_text(alloc, &result)?;
+        let rows = rows_text(alloc, result.rows())?;
+        Ok(format!(in alloc; "{sets}{rows}")?)
+    }
+
     fn row_answer<R: Threads + Sync>(
         &self,
         rt: &R,
@@ -201,6 +213,7 @@ impl Labelling {
             Question::Local => rows_text(alloc, self.local_rows(alloc)?.as_slice()),
             Question::Possible => rows_text(alloc, rows.as_slice()),
             Question::Passes => self.compared(alloc, rows.as_slice()),
+            Question::Result => self.result_text(rt, alloc),
             Question::Transfer(arc) => {
                 let sender = self.net.sender_of(arc).unwrap_or(255);
                 match rows.as_slice().get(usize::from(sender)) {
