@@ -1,0 +1,4 @@
+pub mod KeepingLemmas
+pub mod PutLemmas
+pub mod OrderLemmas
+pub mod FileLemmas

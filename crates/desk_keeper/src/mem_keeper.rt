@@ -1,0 +1,83 @@
+//! A keeper in memory.
+
+ghost use Rattle.std.specs.Prelude.{◌≡◌, IfOk, None, Some};
+
+use crate::copies::{copy_change, copy_rows};
+use crate::making::make;
+use crate::{Keeper, KeeperError};
+use desk_tables::Rows;
+use net_types::{NoMemory, Text};
+use outside::Calls;
+use review_rules::Change;
+use std::alloc::Global;
+use std::marker::Model;
+
+/// A keeper in memory, whose tables are in key order. Its calls are counted from 1.
+#[derive(Debug, Drop)]
+pub struct MemKeeper {
+    calls: Calls,
+    name: Option<Text>,
+    rows: Rows,
+}
+
+impl Model for MemKeeper {
+    ghost use Rattle.desk_keeper.specs.Memory.{KeeperValue, AreInOrder};
+
+    ghost Value = { KeeperValue };
+
+    ghost view = { λ k. record { calls = k.calls; name = k.name; rows = k.rows } };
+
+    ghost invariant = { λ k. AreInOrder k.rows };
+}
+
+impl MemKeeper {
+    ghost use Rattle.desk_keeper.specs.Memory.{AreInOrder};
+
+    /// A keeper of these tables, of which the calls with the numbers in `failing` fail. It is not open.
+    pub fn new(alloc: Global, rows: Rows, failing: &[u64]) -> Result<MemKeeper, NoMemory>
+        requires { AreInOrder rows }
+        ensures { IfOk result (λ keeper. keeper ≡ record { calls = record { next = Some 1; failing = failing.now; faults = 0 }; name = None; rows = rows }) }
+    {
+        Ok(MemKeeper {
+            calls: Calls::new(alloc, failing)?,
+            name: None,
+            rows,
+        })
+    }
+
+    /// The tables.
+    pub fn rows(&self) -> &Rows
+        ensures { result.now ≡ self.now.rows }
+    {
+        &self.rows
+    }
+}
+
+impl Keeper for MemKeeper {
+    ghost use Rattle.std.specs.Prelude.{Some};
+
+    ghost faults = { λ k. k.calls.faults };
+
+    ghost opened = { λ k. k.name };
+
+    ghost tables = { λ k. Some k.rows };
+
+    fn open(&mut self, alloc: Global, name: &str) -> Result<(), KeeperError> {
+        self.name = None;
+        self.calls.begin()?;
+        self.name = Some(Text::from_str(alloc, name)?);
+        Ok(())
+    }
+
+    fn load(&mut self, alloc: Global) -> Result<Rows, KeeperError> {
+        self.calls.begin()?;
+        Ok(copy_rows(alloc, &self.rows)?)
+    }
+
+    fn commit(&mut self, alloc: Global, change: &Change) -> Result<(), KeeperError> {
+        self.calls.begin()?;
+        let change = copy_change(alloc, change)?;
+        make(alloc, &mut self.rows, change)?;
+        Ok(())
+    }
+}
