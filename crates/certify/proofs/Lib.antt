@@ -1,3 +1,1 @@
-pub mod ZipLemmas
-pub mod HoldsLemmas
-pub mod CaseLemmas
+pub mod VerdictLemmas

@@ -1,49 +1,32 @@
--- What a property's verdict is in a network without sessions, with no failed link; and the cases of a book.
-use Rattle.std.specs.Prelude.{ℕ, ◌≡◌, ◌+◌, ◌⊎◌, Bool, true, List as Seq, [], ◌∷◌, map, filter, Some, None, is_none, if◌then◌else◌}
-use Rattle.std.specs.List.{list_any, AllZip}
-use Rattle.net_types.specs.Numbering.{router_number}
-use Rattle.net_types.specs.declared.arcs.Arc.{Arc}
+-- What a property's verdict is in a network, over every set of failed links that it permits. This project's own.
+use Rattle.std.specs.Prelude.{ℕ, ◌≡◌, ◌≤◌, ◌<◌, ◌+◌, true, List as Seq, length, Some, None, Result, Ok, Err}
+use Rattle.std.specs.List.{AllZip}
 use Rattle.net_types.specs.NetValue.{NetValue}
-use Rattle.net_types.specs.Owners.{owns}
-use Rattle.net_types.specs.PrefixValue.{PrefixValue}
-use Rattle.net_types.specs.Prefixes.{same_prefix}
-use Rattle.net_types.specs.Distance.{IsWalk}
+use Rattle.failure_sets.specs.SetOrder.{IsPermitted, comes_before}
 use Rattle.property_book.specs.declared.property.Property.{Property}
 use Rattle.property_book.specs.declared.verdict.Broken.{Broken}
-use Rattle.property_book.specs.declared.verdict.Broken.TheVariants.{NoSureRoute}
 use Rattle.property_book.specs.declared.verdict.Verdict.{Verdict}
 use Rattle.property_book.specs.declared.verdict.Verdict.TheVariants.{Certified, NotCertified, NotApplicable}
 use Rattle.property_book.specs.declared.verdict.Outcome.{Outcome}
 use Rattle.property_book.specs.Applicable.{barred}
 use Rattle.property_book.specs.Meaning.{HoldsIfCertified}
+use Rattle.certify.specs.Results.{IsBrokenWith, IsImpliedWith, analysis_of}
+use Rattle.case_walk.specs.Book.{solved_of, total_of}
+use Rattle.case_walk.specs.declared.refusal.CertifyRefusal.{CertifyRefusal}
+use Rattle.case_walk.specs.declared.refusal.CertifyRefusal.TheVariants.{CasesLimit, NoMemory}
 
--- some walk of adjacencies leads from the router to an OSPF stub of the prefix
-abbrev pub HasWalk : NetValue → PrefixValue → ℕ → Type 0
-HasWalk net prefix u = (arcs : Seq Arc) × (sum : ℕ) × IsWalk net prefix [] arcs u sum
-
--- the router surely has a route: it owns the prefix, or has a distance
-abbrev pub HasSureRoute : NetValue → PrefixValue → ℕ → Type 0
-HasSureRoute net prefix u = (owns net u prefix ≡ true) ⊎ HasWalk net prefix u
-
--- the property applies, and asks of this router
-pub record Asks (net : NetValue) (property : Property) (u : ℕ) : Type 0 where
-  pub applies : barred net property ≡ None
-  pub router : router_number net property.router ≡ Some u
-
--- certified: its router surely has a route. This is the verdict of a property to reach, with no failed link; no other
--- is asked
+-- certified: the property applies, and is implied with each set of links failed that it permits
 pub record IsCertified (net : NetValue) (property : Property) : Type 0 where
-  pub router : ℕ
-  pub asks : Asks net property router
-  pub sure : HasSureRoute net property.prefix router
+  pub applies : barred net property ≡ None
+  pub implied : (failed : Seq ℕ) → IsPermitted (length net.links) property.failures failed → IsImpliedWith net property failed
 
--- not certified: its router has none, with no failed link
+-- not certified: it applies, and this is the first such set, by size and then by link numbers, with which it is not implied,
+-- and what is broken then
 pub record IsNotCertified (net : NetValue) (property : Property) (failed : Seq ℕ) (broken : Broken) : Type 0 where
-  pub router : ℕ
-  pub asks : Asks net property router
-  pub unsure : HasSureRoute net property.prefix router → ⊥
-  pub at : failed ≡ []
-  pub by : broken ≡ NoSureRoute router
+  pub applies : barred net property ≡ None
+  pub permitted : IsPermitted (length net.links) property.failures failed
+  pub breaks : IsBrokenWith net property failed broken
+  pub first : (earlier : Seq ℕ) → IsPermitted (length net.links) property.failures earlier → comes_before earlier failed ≡ true → IsImpliedWith net property earlier
 
 -- the verdict of a property
 abbrev pub IsVerdict : NetValue → Property → Verdict → Type 0
@@ -51,27 +34,22 @@ IsVerdict net property Certified = IsCertified net property
 IsVerdict net property (NotCertified failed broken) = IsNotCertified net property failed broken
 IsVerdict net property (NotApplicable bar) = barred net property ≡ Some bar
 
--- the property applies
-abbrev pub applies : NetValue → Property → Bool
-applies net property = is_none (barred net property)
-
--- the prefixes of the properties that apply
-abbrev pub asked_prefixes : NetValue → Seq Property → Seq PrefixValue
-asked_prefixes net book = map (λ property. property.prefix) (filter (applies net) book)
-
--- how many prefixes there are, each counted once
-abbrev pub distinct_count : Seq PrefixValue → ℕ
-distinct_count [] = 0
-distinct_count (prefix ∷ more) = (if list_any (same_prefix prefix) more then 0 else 1) + distinct_count more
-
--- the cases of a book: with no failed link, one for each prefix that a property which applies asks of
-abbrev pub case_count : NetValue → Seq Property → ℕ
-case_count net book = distinct_count (asked_prefixes net book)
-
--- what is found of a book: a verdict for each property, where each property with a certificate holds, and
--- all cases solved
+-- what is found of a book: a verdict for each property, where each property with a certificate holds; how many cases there
+-- are, and how many of them were solved
 pub record IsOutcome (net : NetValue) (book : Seq Property) (outcome : Outcome) : Type 0 where
   pub verdicts : AllZip (IsVerdict net) book outcome.verdicts
   pub holds : AllZip (HoldsIfCertified net) book outcome.verdicts
-  pub solved : outcome.solved ≡ case_count net book
-  pub total : outcome.total ≡ case_count net book
+  pub total : outcome.total ≡ total_of net book
+  pub solved : outcome.solved ≡ solved_of net (analysis_of net) book
+
+-- what is answered of a book: its outcome where it has at most 50,000 cases, else how many it has
+abbrev pub Answers : NetValue → Seq Property → Result Outcome CertifyRefusal → Type 0
+Answers net book (Ok outcome) = IsOutcome net book outcome × (total_of net book ≤ 50000)
+Answers net book (Err (CasesLimit n)) = (n ≡ total_of net book) × (50000 < n)
+Answers net book (Err NoMemory) = Unit {0}
+
+-- the ticks before and after: one for each case that was solved, none where the book has too many cases
+abbrev pub Ticks : ℕ → ℕ → Result Outcome CertifyRefusal → Type 0
+Ticks before now (Ok outcome) = now ≡ before + outcome.solved
+Ticks before now (Err (CasesLimit n)) = now ≡ before
+Ticks before now (Err NoMemory) = Unit {0}

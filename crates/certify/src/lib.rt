@@ -1,17 +1,19 @@
 //! The verdicts of a book in a network: which properties are certified.
 //!
-//! Decides: the verdict of each property that applies, by the distances of OSPF, and how many cases of
-//! prefix and failure set there are. Until BGP and failures are analysed, of networks without sessions and
-//! with no failed link alone.
-//! Stands on: `ospf_paths` for distances, `property_book` for properties, whether they apply, and what they
-//! mean, and definitions of `concrete_algebra` and `failure_sets`.
-//! Promises: each verdict is the one of `specs/Verdicts.antt`, and a certified property holds. The laws of
-//! `specs/Laws.antt` say that in a network without sessions a property to reach that is `not certified`
-//! does not hold, and that each case is counted once.
+//! Decides: nothing that the crates below have not decided. It solves the cases that `case_walk` asks for by
+//! `refine_rounds`, and reads their results by `implication`. A case that differs from a solved one by links that are idle
+//! there is not solved again.
+//! Stands on: those three, `property_book`, and the crates below them; `outside` for the gate and the counter.
+//! Promises: each verdict is the one of `specs/Verdicts.antt`, a certified property holds, whatever set of links that it
+//! permits has failed, in every stable labelling, and as many ticks are made as cases were solved. Not: that a property
+//! which is not certified is false.
 #![tactic(auto)]
 
 mod laws;
+mod solver;
 mod verdicts;
 
-pub use laws::{law_of_cases, law_of_sure_routes};
-pub use verdicts::outcome_of;
+pub use case_walk::CertifyRefusal;
+pub use implication::implied;
+pub use laws::law_of_certificates;
+pub use verdicts::{cases, certify};

@@ -1,0 +1,12 @@
+pub mod SetLemmas
+pub mod ArcLemmas
+pub mod ReachLemmas
+pub mod SolidLemmas
+pub mod AnswerLemmas
+pub mod ViewLemmas
+pub mod WalkLemmas
+pub mod TellLemmas
+pub mod MeaningLemmas
+pub mod NearLemmas
+pub mod TrailLemmas
+pub mod AlikeLemmas
