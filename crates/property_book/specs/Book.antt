@@ -1,5 +1,5 @@
 -- The property file: what its TOML says, or its first refusal.
-use Rattle.std.specs.Prelude.{ℕ, ◌≡◌, ◌==◌, ◌&&◌, nat_lt, Bool, true, false, List as Seq, [], ◌∷◌, length, codes, Option, Some, None, option_and_then, option_map, Result, Ok, Err, if◌then◌else◌}
+use Rattle.std.specs.Prelude.{ℕ, ◌≤◌, nat_lt, Bool, List as Seq, [], ◌∷◌, length, codes, Option, Some, None, option_and_then, option_map, Result, Ok, Err, if◌then◌else◌}
 use Rattle.toml.specs.Data.{Items, Members}
 use Rattle.net_types.specs.declared.refusals.FormRefusal.{FormRefusal}
 use Rattle.net_types.specs.declared.refusals.FormRefusal.TheVariants.{BadField, SameName, TooMany}
@@ -30,22 +30,13 @@ abbrev pub keys_of : Kind → Seq (Seq ℕ)
 keys_of (Waypoint via) = codes "via" ∷ every_keys
 keys_of _ = every_keys
 
--- what can be asked until failures and BGP are analysed: to reach, with no failed link
-abbrev pub is_analysed : Kind → ℕ → Bool
-is_analysed Reach failures = failures == 0
-is_analysed _ failures = false
-
--- a property of a book: it asks what can be asked
+-- what can be asked: that a property holds with at most three failed links
 abbrev pub IsAsked : Property → Type 0
-IsAsked property = is_analysed property.kind property.failures ≡ true
-
--- the table has the fields of such a property, which can be asked
-abbrev pub fits : Members → Kind → ℕ → Bool
-fits fields kind failures = has_only (keys_of kind) fields && is_analysed kind failures
+IsAsked property = property.failures ≤ 3
 
 abbrev pub assembled : Members → Option (Seq ℕ) → Option Kind → Option (Seq ℕ) → Option PrefixValue → Option ℕ → Option Property
 assembled fields (Some name) (Some kind) (Some router) (Some prefix) (Some failures) =
-    if fits fields kind failures
+    if has_only (keys_of kind) fields
     then Some (record { name = name; kind = kind; router = router; prefix = prefix; failures = failures }) else None
 assembled fields _ _ _ _ _ = None
 

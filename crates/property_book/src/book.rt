@@ -8,7 +8,7 @@ ghost use Rattle.net_types.specs.Order.{same_text};
 ghost use Rattle.toml_fields.specs.Fields.{has_only};
 ghost use Rattle.toml_fields.specs.Tables.{rows_from, first_repeat};
 ghost use Rattle.toml_fields.specs.Document.{Answers, then_form};
-ghost use Rattle.property_book.specs.Book.{IsAsked, fits, book_of, book_of_top, is_analysed, is_same_name, keys_of, kind_at, kind_of, property_of, tables_of, with_names};
+ghost use Rattle.property_book.specs.Book.{IsAsked, book_of, book_of_top, is_same_name, keys_of, kind_at, kind_of, property_of, tables_of, with_names};
 
 use crate::property::{Kind, Property};
 use net_types::{FormRefusal, List, NoMemory, Prefix, Text};
@@ -32,10 +32,10 @@ fn kind_of(alloc: Global, word: &str, via: Option<&str>) -> Result<Option<Kind>,
     if word != "waypoint" {
         return Ok(None);
     }
-    match via {
-        Some(host) => Ok(Some(Kind::Waypoint(Text::from_str(alloc, host)?))),
-        None => Ok(None),
-    }
+    let Some(host) = via else {
+        return Ok(None);
+    };
+    Ok(Some(Kind::Waypoint(Text::from_str(alloc, host)?)))
 }
 
 fn kind_at(alloc: Global, table: &Table) -> Result<Option<Kind>, NoMemory>
@@ -44,16 +44,6 @@ fn kind_at(alloc: Global, table: &Table) -> Result<Option<Kind>, NoMemory>
     match text_at(table, "kind") {
         Some(word) => kind_of(alloc, word, host_at(table, "via")),
         None => Ok(None),
-    }
-}
-
-// Until failures and BGP are analysed, a property can ask to reach with no failed link alone.
-fn is_analysed(kind: &Kind, failures: u8) -> bool
-    ensures { result ≡ is_analysed kind.now failures }
-{
-    match kind {
-        Kind::Reach => failures == 0,
-        _ => false,
     }
 }
 
@@ -90,13 +80,6 @@ fn made(
     })
 }
 
-// Whether the table has the fields of such a property, which can be asked.
-fn fits(table: &Table, kind: &Kind, failures: u8) -> bool
-    ensures { result ≡ fits (table_view table.now) kind.now failures }
-{
-    has_only_keys(kind, table) && is_analysed(kind, failures)
-}
-
 // The property of a table, where each of its fields is there, known and in range.
 #[tactic(auto, unfolding(crate::specs::Book::property_of))]
 fn property_of(alloc: Global, table: &Table) -> Result<Option<Property>, NoMemory>
@@ -119,7 +102,7 @@ fn property_of(alloc: Global, table: &Table) -> Result<Option<Property>, NoMemor
         return Ok(None);
     };
     let failures = failures as u8;
-    if !fits(table, &kind, failures) {
+    if !has_only_keys(&kind, table) {
         return Ok(None);
     }
     Ok(Some(made(alloc, name, kind, router, prefix, failures)?))
