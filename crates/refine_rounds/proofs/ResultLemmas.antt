@@ -1,5 +1,5 @@
 -- What the result of a case says of each stable labelling, and that the rounds end where one drops nothing.
-use Rattle.std.proofs.Common.{ℕ, zero, suc, ◌≡◌, ◌<◌, ◌≤◌, ◌+◌, ◌*◌, ◌^◌, ◌⊎◌, inl, inr, true, List, length, All, Option, Some, slice_index_or, arith, ap, sym, subst, refl, ◌∙◌}
+use Rattle.std.proofs.Common.{ℕ, zero, suc, ◌≡◌, ◌<◌, ◌≤◌, ◌+◌, ◌*◌, ◌^◌, ◌⊎◌, inl, inr, true, List, length, All, Option, Some, arith, ap, sym, subst, ◌∙◌}
 use Rattle.std.proofs.lemmas.List.Elements.{All-from_get_or}
 use Rattle.net_types.specs.declared.routes.Route.{Route}
 use Rattle.net_types.specs.Distance.{AreDistances}
@@ -16,8 +16,7 @@ use Rattle.abstract_route.specs.declared.rows.Row.{Row}
 use Rattle.abstract_route.specs.Rows.{bottom, row_at}
 use Rattle.abstract_route.proofs.RowLemmas.{below_refl}
 use Rattle.abstract_maps.specs.AbstractMap.{IsShort}
-use Rattle.concrete_algebra.specs.Problem.{problem_of}
-use Rattle.concrete_algebra.specs.Stability.{IsStable, label_at}
+use Rattle.concrete_algebra.specs.Stability.{label_at}
 use Rattle.possible_fixpoint.specs.declared.alive.Alive.{Alive}
 use Rattle.possible_fixpoint.specs.Flow.{flow_of}
 use Rattle.possible_fixpoint.specs.Held.{all_alive}
@@ -27,13 +26,14 @@ use Rattle.possible_fixpoint.proofs.LeastLemmas.{possible_is_least}
 use Rattle.possible_fixpoint.proofs.ShortLemmas.{possible_is_short}
 use Rattle.certain_fixpoint.specs.CertainSet.{certain_set}
 use Rattle.certain_fixpoint.proofs.CertainLemmas.{certain_inside, certain_set_is}
+use Rattle.refine_rounds.specs.Idle.{idle_set}
 use Rattle.refine_rounds.specs.Rounds.{IsSound, round_of}
 use Rattle.refine_rounds.specs.Steps.{alive_after, last_alive, step}
 use Rattle.refine_rounds.specs.Results.{CaseValue, CertainHold, Contains, DropsNothingHeld, FirstQuietRoundIsLast, ResultsAreCertain, ResultsContain, ResultsDropNothingHeld, result_at, result_of}
 use Rattle.refine_rounds.specs.declared.rounds.Turn.{Turn}
 use Rattle.refine_rounds.specs.Turning.{IsReached, IsTurn}
 use Rattle.refine_rounds.proofs.RoundLemmas.{certain_routers_hold, rounds_are_sound}
-use Rattle.refine_rounds.proofs.StepLemmas.{after_rounds, after_small, falls, last_round_drops_nothing, result_is_sound, same_alive, step_falls}
+use Rattle.refine_rounds.proofs.StepLemmas.{after_rounds, last_round_drops_nothing, result_is_sound, same_alive, step_falls}
 
 -- ---- what the result says
 
@@ -150,14 +150,15 @@ amount_falls net prefix failed distances alive turn r differs =
 
 -- ---- the whole
 
-pub result_made : (net : NetValue) (prefix : PrefixValue) (failed : List ℕ) (distances : List (Option ℕ)) (alive : Alive) (turn : Turn) → IsNet net →
+pub result_made : (net : NetValue) (prefix : PrefixValue) (failed : List ℕ) (distances : List (Option ℕ)) (alive : Alive) (turn : Turn) (idle : ℕ) → IsNet net →
     AreDistances net prefix failed distances → alive ≡ last_alive net prefix failed distances → IsTurn net prefix failed distances alive turn →
-    (record { rows = turn.rows; certain = turn.certain; alive = alive; distances = distances }) ≡ result_of net prefix failed
+    idle ≡ idle_set (round_of net prefix failed distances all_alive) →
+    (record { rows = turn.rows; certain = turn.certain; alive = alive; distances = distances; idle = idle }) ≡ result_of net prefix failed
 unfolding result_of
-result_made net prefix failed distances alive turn valid are last is =
+result_made net prefix failed distances alive turn idle valid are last is quiet =
     made turn.rows turn.certain is.rows is.certain ∙
     ap (λ (a : Alive). result_at net prefix failed distances a) last ∙
     ap (λ (ds : List (Option ℕ)). result_at net prefix failed ds (last_alive net prefix failed ds)) (distances_are_one net prefix failed distances (distance_list net prefix failed) are (distance_list_is net prefix failed valid)) where
       made : (rows : List Row) (certain : ℕ) → rows ≡ possible (flow_of net prefix failed distances alive) → certain ≡ certain_set (round_of net prefix failed distances alive) →
-          (record { rows = rows; certain = certain; alive = alive; distances = distances }) ≡ result_at net prefix failed distances alive
-      made rows certain e f = λ i. record { rows = e i; certain = f i; alive = alive; distances = distances }
+          (record { rows = rows; certain = certain; alive = alive; distances = distances; idle = idle }) ≡ result_at net prefix failed distances alive
+      made rows certain e f = λ i. record { rows = e i; certain = f i; alive = alive; distances = distances; idle = quiet i }

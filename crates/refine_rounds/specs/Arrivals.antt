@@ -1,6 +1,5 @@
 -- What a round finds of each arc, once, for all that it asks of it. All of this is the project's own.
-use Rattle.std.specs.Prelude.{ℕ, ◌≡◌, ◌==◌, ◌&&◌, ◌||◌, Bool, true, false, not, if◌then◌else◌, List, length, map, Option, Some, None, option_map, option_and_then, slice_get}
-use Rattle.std.specs.Option.{option_map_or}
+use Rattle.std.specs.Prelude.{ℕ, ◌≡◌, ◌==◌, ◌&&◌, ◌||◌, Bool, true, false, not, if◌then◌else◌, List, length, map, Option, Some, None, option_map, option_and_then}
 use Rattle.std.specs.List.{list_any, range_with_len}
 use Rattle.net_types.specs.declared.arcs.Arc.{Arc}
 use Rattle.net_types.specs.Arcs.{down_of, is_up, receiver_of, sender_of, up_of}
@@ -9,7 +8,7 @@ use Rattle.abstract_route.specs.declared.candidates.Candidate.{Candidate}
 use Rattle.abstract_route.specs.Beats.{beats}
 use Rattle.abstract_route.specs.Rows.{inhabited, row_at}
 use Rattle.abstract_maps.specs.Transfer.{passes}
-use Rattle.certain_fixpoint.specs.Certain.{Round, local_at, round_read}
+use Rattle.certain_fixpoint.specs.Certain.{Round, round_read}
 use Rattle.certain_fixpoint.specs.CertainSet.{certain_set}
 use Rattle.refine_rounds.specs.declared.arrivals.Arrival.{Arrival}
 use Rattle.refine_rounds.specs.declared.arrivals.Arrivals.{Arrivals}

@@ -12,18 +12,21 @@ use Rattle.concrete_algebra.specs.Problem.{problem_of}
 use Rattle.concrete_algebra.specs.Stability.{IsStable, label_at}
 use Rattle.possible_fixpoint.specs.declared.alive.Alive.{Alive}
 use Rattle.possible_fixpoint.specs.Flow.{flow_of}
-use Rattle.possible_fixpoint.specs.Held.{AreIn, IsHeldAlive}
+use Rattle.possible_fixpoint.specs.Held.{AreIn, IsHeldAlive, all_alive}
 use Rattle.possible_fixpoint.specs.Possible.{possible}
 use Rattle.certain_fixpoint.specs.CertainSet.{certain_set}
+use Rattle.refine_rounds.specs.Idle.{idle_set}
 use Rattle.refine_rounds.specs.Rounds.{round_of}
 use Rattle.refine_rounds.specs.Steps.{alive_after, last_alive, step}
 
--- what is known of a case after its last round: the rows, the certain routers, what is alive, and the OSPF distances
+-- what is known of a case after its last round: the rows, the certain routers, what is alive, the OSPF distances, and the
+-- links that are idle, which the first round tells
 pub record CaseValue : Type 0 where
   pub rows : List Row
   pub certain : ℕ
   pub alive : Alive
   pub distances : List (Option ℕ)
+  pub idle : ℕ
 
 -- that of these distances and of what is alive in the last round
 abbrev pub result_at : NetValue → PrefixValue → List ℕ → List (Option ℕ) → Alive → CaseValue
@@ -32,6 +35,7 @@ result_at net prefix failed distances alive = record {
   certain = certain_set (round_of net prefix failed distances alive);
   alive = alive;
   distances = distances;
+  idle = idle_set (round_of net prefix failed distances all_alive);
 }
 
 -- the result of a case: at the least distances, after the first round that drops nothing

@@ -1,6 +1,7 @@
 //! What is true of rounds and of the results of cases: each law is the contract of a function that does nothing.
 
 ghost use Rattle.refine_rounds.specs.Results.{FirstQuietRoundIsLast, ResultsAreCertain, ResultsContain, ResultsDropNothingHeld};
+ghost use Rattle.refine_rounds.specs.Reuse.{IdleLinksAre, IdleLinksBringNothing, IdleLinksMayFail};
 ghost use Rattle.refine_rounds.specs.Rounds.{CertainRoutersHold, HeldStaysAlive, RoundsAreSound, SureIsThere};
 ghost use Rattle.refine_rounds.specs.Steps.{BeatenIs, LastRoundDropsNothing, ResultIsSound, StepDropsBeaten};
 
@@ -29,4 +30,16 @@ pub fn law_of_results()
     ensures containment { ResultsContain }
     ensures certainty { ResultsAreCertain }
     ensures drops { ResultsDropNothingHeld }
+{}
+
+/// The idle links of a result are those of its case, and nothing comes over them.
+pub fn law_of_idle_links()
+    ensures links { IdleLinksAre }
+    ensures nothing { IdleLinksBringNothing }
+{}
+
+/// The result of a failure set is that of the set without a link which is idle there, and the same links outside the set
+/// are idle.
+pub fn law_of_reuse()
+    ensures { IdleLinksMayFail }
 {}

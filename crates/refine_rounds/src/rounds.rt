@@ -9,12 +9,15 @@ ghost use Rattle.certain_fixpoint.specs.CertainSet.{certain_set};
 ghost use Rattle.possible_fixpoint.specs.Flow.{flow_of};
 ghost use Rattle.possible_fixpoint.specs.Held.{all_alive};
 ghost use Rattle.possible_fixpoint.specs.Possible.{possible};
+ghost use Rattle.refine_rounds.specs.Idle.{idle_set};
+ghost use Rattle.refine_rounds.specs.Rounds.{round_of};
 ghost use Rattle.refine_rounds.specs.Steps.{last_alive, step};
 ghost use Rattle.refine_rounds.specs.Turning.{ReachedAsked, TurnAsked};
 
 use crate::arrivals::arrivals_of;
 use crate::beating::Found;
 use crate::dropping::step;
+use crate::idle::idle_links;
 use abstract_route::Row;
 use certain_fixpoint::{Reading, solve_certain};
 use net_types::{Bits64, FailSet, List, Net, NoMemory, Prefix};
@@ -41,11 +44,12 @@ pub(crate) struct Turn {
     pub next: Alive,
 }
 
-/// The last round, and what was alive in it.
+/// The last round, what was alive in it, and the links that the first round found idle.
 #[derive(Debug, Drop)]
 pub(crate) struct Last {
     pub alive: Alive,
     pub turn: Turn,
+    pub idle: Bits64,
 }
 
 // Nothing has been dropped.
@@ -153,6 +157,24 @@ fn one_round<R: Threads + Sync, G: Gate + Sync>(
     })
 }
 
+// The idle links, by the rows of the first round.
+#[tactic(auto, using(crate::proofs::ResultLemmas::short_if))]
+fn idle_at_first(asked: &Asked<'_>, rows: &[Row]) -> Bits64
+    requires distances { AreDistances asked.now.net.now asked.now.prefix asked.now.failed.now asked.now.distances.now }
+    requires rows { rows.now ≡ possible (flow_of asked.now.net.now asked.now.prefix asked.now.failed.now asked.now.distances.now all_alive) }
+    ensures { result ≡ idle_set (round_of asked.now.net.now asked.now.prefix asked.now.failed.now asked.now.distances.now all_alive) }
+{
+    asked.net.valid();
+    let reading = Reading {
+        net: asked.net,
+        prefix: asked.prefix,
+        failed: asked.failed,
+        distances: asked.distances,
+        rows,
+    };
+    idle_links(&reading)
+}
+
 /// Rounds to the first that drops nothing.
 ///
 /// # Errors
@@ -169,12 +191,18 @@ pub(crate) fn settle<R: Threads + Sync, G: Gate + Sync>(
     requires few { asked.now.workers ≤ 8 }
     ensures alive { IfOk result (λ last. last.alive ≡ last_alive asked.now.net.now asked.now.prefix asked.now.failed.now asked.now.distances.now) }
     ensures turn { IfOk result (λ last. TurnAsked asked.now last.alive last.turn) }
+    ensures idle { IfOk result (λ last. last.idle ≡ idle_set (round_of asked.now.net.now asked.now.prefix asked.now.failed.now asked.now.distances.now all_alive)) }
 {
     let mut alive = all_alive();
     let mut found = one_round(rt, alloc, asked, gate, &alive)?;
+    let idle = idle_at_first(asked, found.rows.as_slice());
     while !are_same(&found.next, &alive) {
         alive = found.next;
         found = one_round(rt, alloc, asked, gate, &alive)?;
     }
-    Ok(Last { alive, turn: found })
+    Ok(Last {
+        alive,
+        turn: found,
+        idle,
+    })
 }

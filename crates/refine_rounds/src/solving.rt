@@ -21,6 +21,7 @@ pub struct CaseResult {
     certain: Bits64,
     alive: Alive,
     distances: List<Option<u64>>,
+    idle: Bits64,
 }
 
 impl Model for CaseResult {
@@ -28,7 +29,7 @@ impl Model for CaseResult {
 
     ghost Value = { CaseValue };
 
-    ghost view = { λ r. record { rows = r.rows; certain = r.certain; alive = r.alive; distances = r.distances } };
+    ghost view = { λ r. record { rows = r.rows; certain = r.certain; alive = r.alive; distances = r.distances; idle = r.idle } };
 }
 
 impl CaseResult {
@@ -58,6 +59,14 @@ impl CaseResult {
         ensures { result.now ≡ self.now.distances }
     {
         self.distances.as_slice()
+    }
+
+    /// The links that are idle: in the first round no route may come over them, and they are on no least walk. So
+    /// nothing changes where one of them fails too.
+    pub fn idle(&self) -> Bits64
+        ensures { result ≡ self.now.idle }
+    {
+        self.idle
     }
 }
 
@@ -90,6 +99,7 @@ fn solved<R: Threads + Sync, G: Gate + Sync>(
         certain: last.turn.certain,
         alive: last.alive,
         distances,
+        idle: last.idle,
     })
 }
 

@@ -1,4 +1,4 @@
-use Rattle.std.proofs.Common.{◌≡◌, IsTrue, true, false, arith}
+use Rattle.std.proofs.Common.{IsTrue, true, false, arith}
 use Rattle.std.proofs.lemmas.Bool.Decides.{nat_tests}
 use Rattle.refine_rounds.proofs.ResultLemmas.{amount_falls, reached_first, reached_last, reached_next}
 use Rattle.refine_rounds.proofs.rounds.settle.Goals as goal

@@ -1,4 +1,3 @@
-use Rattle.std.proofs.Common.{◌≡◌}
 use Rattle.refine_rounds.proofs.ResultLemmas.{contains_if}
 use Rattle.refine_rounds.proofs.solving.solve_case.Goals as goal
 

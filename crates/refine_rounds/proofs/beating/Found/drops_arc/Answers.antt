@@ -1,4 +1,4 @@
-use Rattle.std.proofs.Common.{◌≡◌, sym, ◌∙◌}
+use Rattle.std.proofs.Common.{◌∙◌}
 use Rattle.refine_rounds.proofs.ArrivalLemmas.{drops_found, found_inside}
 use Rattle.refine_rounds.proofs.beating.Found.drops_arc.Goals as goal
 
