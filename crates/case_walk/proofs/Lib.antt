@@ -1,0 +1,12 @@
+pub mod FindLemmas
+pub mod SetLemmas
+pub mod ReuseLemmas
+pub mod CountLemmas
+pub mod MarkLemmas
+pub mod WordLemmas
+pub mod TurnLemmas
+pub mod WalkLemmas
+pub mod BookLemmas
+pub mod ProgressLemmas
+pub mod CaseLemmas
+pub mod UnreusedLemmas

@@ -1,0 +1,14 @@
+use Rattle.std.proofs.Common.{◌≡◌, ◌+◌, ◌-◌, length}
+use Rattle.failure_sets.specs.SetList.{failure_sets}
+use Rattle.case_walk.specs.Turns.{IsWalk}
+use Rattle.case_walk.proofs.walk.walk.Given as goal
+
+abbrev pub invariant-loop-at : goal.invariant-loop-at
+invariant-loop-at g l = record {
+  walk : IsWalk l.net (g.S.Solve.analysis l.net) l.links l.prefix l.most l.book l.initial.verdicts l.sweep l.verdicts l.at;
+  net : g.S.Solve.net l.solver ≡ l.net;
+  ticks : g.S.Solve.ticks l.solver ≡ g.S.Solve.ticks l.initial.solver + l.sweep.solved;
+}
+
+abbrev pub decreases-loop-at : goal.decreases-loop-at
+decreases-loop-at g l = length (failure_sets l.links l.most) - length l.sweep.words

@@ -1,0 +1,10 @@
+pub mod Analysis
+pub mod Representatives
+pub mod Book
+pub mod Verdicts
+pub mod Outcomes
+pub mod Laws
+pub mod Marks
+pub mod Words
+pub mod Turns
+pub mod Progress

@@ -1,0 +1,45 @@
+//! What solves the case of a prefix and a failure set.
+
+ghost use Rattle.std.specs.Prelude.{ℕ, ◌≡◌, ◌+◌, List as Seq, IfOk, length};
+ghost use Rattle.net_types.specs.NetValue.{NetValue};
+ghost use Rattle.net_types.specs.PrefixValue.{PrefixValue};
+ghost use Rattle.failure_sets.specs.SetOrder.{IsPermitted};
+ghost use Rattle.case_walk.specs.Analysis.{Analysis, Answers};
+
+use net_types::{Bits64, FailSet, NoMemory, Prefix};
+use property_book::{Broken, Property};
+
+/// What solves the cases of a network, and reads what their results imply.
+pub trait Solve {
+    /// The result of a case.
+    type Found: Drop;
+
+    ghost net: { Self → NetValue };
+
+    ghost analysis: { NetValue → Analysis };
+
+    ghost ticks: { Self → ℕ };
+
+    ghost is_result: { NetValue → PrefixValue → Seq ℕ → Self.Found → Type 0 };
+
+    /// The result of the case of this prefix with these links failed.
+    ///
+    /// # Errors
+    ///
+    /// [`NoMemory`] where there was none; the tick is made then too.
+    fn solve(&mut self, prefix: &Prefix, set: FailSet) -> Result<Self::Found, NoMemory>
+        requires { IsPermitted (length (net self.old).links) 3 set }
+        ensures net { net self.new ≡ net self.old }
+        ensures case { IfOk result (λ found. is_result (net self.old) prefix.now set found) }
+        ensures tick { ticks self.new ≡ ticks self.old + 1 };
+
+    /// The idle links of a case, from its result.
+    fn idle(&self, prefix: &Prefix, set: FailSet, found: &Self::Found) -> Bits64
+        requires { is_result (net self.now) prefix.now set found.now }
+        ensures { result ≡ (analysis (net self.now)).idle prefix.now set };
+
+    /// What is broken of a property in a case of its prefix, by the result of the case; none where the property is implied.
+    fn implied(&self, property: &Property, set: FailSet, found: &Self::Found) -> Option<Broken>
+        requires { is_result (net self.now) property.now.prefix set found.now }
+        ensures { Answers (analysis (net self.now)) property.now set result };
+}
