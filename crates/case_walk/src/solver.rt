@@ -7,7 +7,9 @@ ghost use Rattle.failure_sets.specs.SetOrder.{IsPermitted};
 ghost use Rattle.case_walk.specs.Analysis.{Analysis, Answers};
 
 use net_types::{Bits64, FailSet, NoMemory, Prefix};
+use outside::Steps;
 use property_book::{Broken, Property};
+use std::sync::ledger::Ledger;
 
 /// What solves the cases of a network, and reads what their results imply.
 pub trait Solve {
@@ -18,8 +20,6 @@ pub trait Solve {
 
     ghost analysis: { NetValue → Analysis };
 
-    ghost ticks: { Self → ℕ };
-
     ghost is_result: { NetValue → PrefixValue → Seq ℕ → Self.Found → Type 0 };
 
     /// The result of the case of this prefix with these links failed.
@@ -27,11 +27,15 @@ pub trait Solve {
     /// # Errors
     ///
     /// [`NoMemory`] where there was none; the tick is made then too.
-    fn solve(&mut self, prefix: &Prefix, set: FailSet) -> Result<Self::Found, NoMemory>
-        requires { IsPermitted (length (net self.old).links) 3 set }
-        ensures net { net self.new ≡ net self.old }
-        ensures case { IfOk result (λ found. is_result (net self.old) prefix.now set found) }
-        ensures tick { ticks self.new ≡ ticks self.old + 1 };
+    fn solve<L: Ledger>(
+        &self,
+        steps: &mut Steps<L>,
+        prefix: &Prefix,
+        set: FailSet,
+    ) -> Result<Self::Found, NoMemory>
+        requires { IsPermitted (length (net self.now).links) 3 set }
+        ensures case { IfOk result (λ found. is_result (net self.now) prefix.now set found) }
+        ensures tick { steps.new ≡ steps.old + 1 };
 
     /// The idle links of a case, from its result.
     fn idle(&self, prefix: &Prefix, set: FailSet, found: &Self::Found) -> Bits64

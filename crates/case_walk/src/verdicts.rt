@@ -14,8 +14,10 @@ use crate::refusal::CertifyRefusal;
 use crate::solver::Solve;
 use crate::walk::walk;
 use net_types::{List, Net, NoMemory};
+use outside::Steps;
 use property_book::{Outcome, Property, Verdict, applicable};
 use std::alloc::Global;
+use std::sync::ledger::Ledger;
 
 /// How many cases are solved at most.
 const MOST_CASES: u64 = 50_000;
@@ -42,8 +44,9 @@ fn openings(alloc: Global, net: &Net, book: &[Property]) -> Result<Vec<Verdict>,
 }
 
 // Solves the cases of the property's prefix, if it leads, and says how many were solved.
-fn solve_at<S: Solve>(
-    solver: &mut S,
+fn solve_at<S: Solve, L: Ledger>(
+    solver: &S,
+    steps: &mut Steps<L>,
     alloc: Global,
     net: &Net,
     book: &[Property],
@@ -54,20 +57,20 @@ fn solve_at<S: Solve>(
 ) -> Result<u64, NoMemory>
     requires few_links { links ≤ 64 }
     requires links { links ≡ length net.now.links }
-    requires same { S.net solver.old ≡ net.now }
+    requires same { S.net solver.now ≡ net.now }
     requires few { All (λ property. property.failures ≤ 3) book.now }
     requires long { length book.now ≡ length verdicts.old }
     requires reusable { AreReusable links (S.analysis net.now) }
-    ensures net { S.net solver.new ≡ net.now }
     ensures brings { OnOk result (Brings net.now (S.analysis net.now) book.now property.now (is_lead net.now property.now later.now) verdicts.old verdicts.new) }
     ensures solved { IfOk result (λ solved. solved ≡ (if is_lead net.now property.now later.now then solved_count ((S.analysis net.now).idle property.now.prefix) links (most_of net.now property.now.prefix book.now) else 0)) }
     ensures small { IfOk result (λ solved. solved < 2 ^ 32) }
-    ensures ticks { IfOk result (λ solved. S.ticks solver.new ≡ S.ticks solver.old + solved) }
+    ensures ticks { IfOk result (λ solved. steps.new ≡ steps.old + solved) }
 {
     if is_lead(net, property, later) {
         let most = most_of(net, &property.prefix, book);
         walk(
             solver,
+            steps,
             alloc,
             net,
             book,
@@ -82,8 +85,9 @@ fn solve_at<S: Solve>(
 }
 
 // Solves the cases of each prefix, and says how many were solved.
-fn solve_all<S: Solve>(
-    solver: &mut S,
+fn solve_all<S: Solve, L: Ledger>(
+    solver: &S,
+    steps: &mut Steps<L>,
     alloc: Global,
     net: &Net,
     book: &[Property],
@@ -92,45 +96,46 @@ fn solve_all<S: Solve>(
 ) -> Result<u64, NoMemory>
     requires few_links { links ≤ 64 }
     requires links { links ≡ length net.now.links }
-    requires same { S.net solver.old ≡ net.now }
+    requires same { S.net solver.now ≡ net.now }
     requires few { All (λ property. property.failures ≤ 3) book.now }
     requires short { length book.now ≤ 64 }
     requires reusable { AreReusable links (S.analysis net.now) }
     requires opening { verdicts.old ≡ map (opening net.now) book.now }
-    ensures net { S.net solver.new ≡ net.now }
     ensures verdicts { OnOk result (AllZip (IsVerdict net.now (S.analysis net.now)) book.now verdicts.new) }
     ensures long { OnOk result (length verdicts.new ≡ length book.now) }
     ensures solved { IfOk result (λ solved. solved ≡ solved_of net.now (S.analysis net.now) book.now) }
-    ensures ticks { IfOk result (λ solved. S.ticks solver.new ≡ S.ticks solver.old + solved) }
+    ensures ticks { IfOk result (λ solved. steps.new ≡ steps.old + solved) }
 {
     let mut solved = 0;
     for (i, property) in book.iter().enumerate() {
         let later = &book[i + 1..];
-        solved += solve_at(solver, alloc, net, book, verdicts, links, property, later)?;
+        solved += solve_at(
+            solver, steps, alloc, net, book, verdicts, links, property, later,
+        )?;
     }
     Ok(solved)
 }
 
 // What is found of a book of few cases.
-fn outcome_of<S: Solve>(
-    solver: &mut S,
+fn outcome_of<S: Solve, L: Ledger>(
+    solver: &S,
+    steps: &mut Steps<L>,
     alloc: Global,
     net: &Net,
     book: &[Property],
     total: u64,
 ) -> Result<Outcome, NoMemory>
-    requires same { S.net solver.old ≡ net.now }
+    requires same { S.net solver.now ≡ net.now }
     requires few { All (λ property. property.failures ≤ 3) book.now }
     requires short { length book.now ≤ 64 }
     requires reusable { AreReusable (length net.now.links) (S.analysis net.now) }
     requires total { total ≡ total_of net.now book.now }
-    ensures net { S.net solver.new ≡ net.now }
     ensures outcome { IfOk result (λ outcome. IsOutcome net.now (S.analysis net.now) book.now outcome) }
-    ensures ticks { IfOk result (λ outcome. S.ticks solver.new ≡ S.ticks solver.old + outcome.solved) }
+    ensures ticks { IfOk result (λ outcome. steps.new ≡ steps.old + outcome.solved) }
 {
     let links = link_count(net);
     let mut verdicts = openings(alloc, net, book)?;
-    let solved = solve_all(solver, alloc, net, book, &mut verdicts, links)?;
+    let solved = solve_all(solver, steps, alloc, net, book, &mut verdicts, links)?;
     Ok(Outcome {
         verdicts: List::from_vec(verdicts),
         solved,
@@ -145,25 +150,25 @@ fn outcome_of<S: Solve>(
 ///
 /// [`CertifyRefusal::CasesLimit`] where the book has more than 50,000 cases, before any is solved;
 /// [`CertifyRefusal::NoMemory`] where there was none.
-pub fn verdicts_of<S: Solve>(
-    solver: &mut S,
+pub fn verdicts_of<S: Solve, L: Ledger>(
+    solver: &S,
+    steps: &mut Steps<L>,
     alloc: Global,
     net: &Net,
     book: &[Property],
 ) -> Result<Outcome, CertifyRefusal>
-    requires same { S.net solver.old ≡ net.now }
+    requires same { S.net solver.now ≡ net.now }
     requires few { All (λ property. property.failures ≤ 3) book.now }
     requires short { length book.now ≤ 64 }
     requires reusable { AreReusable (length net.now.links) (S.analysis net.now) }
-    ensures net { S.net solver.new ≡ net.now }
     ensures answer { IsAnswer net.now (S.analysis net.now) book.now result }
-    ensures ticks { AreTicks (S.ticks solver.old) (S.ticks solver.new) result }
+    ensures ticks { AreTicks steps.old steps.new result }
 {
     let total = cases(net, book);
     if total > MOST_CASES {
         return Err(CertifyRefusal::CasesLimit(total));
     }
-    match outcome_of(solver, alloc, net, book, total) {
+    match outcome_of(solver, steps, alloc, net, book, total) {
         Ok(outcome) => Ok(outcome),
         Err(NoMemory) => Err(CertifyRefusal::NoMemory),
     }

@@ -14,8 +14,10 @@ use crate::solver::Solve;
 use crate::words::{find_spare, word_at};
 use failure_sets::{count, first, next};
 use net_types::{Bits64, FailSet, List, Net, NoMemory, Prefix};
+use outside::Steps;
 use property_book::{Property, Verdict};
 use std::alloc::Global;
+use std::sync::ledger::Ledger;
 
 /// How far the walk has come: the words of the sets, and how many of them were solved.
 #[derive(Debug, Drop)]
@@ -25,30 +27,31 @@ struct Sweep {
 }
 
 // The idle links of a set that is solved. The verdicts are marked with its case.
-fn solve_word<S: Solve>(
-    solver: &mut S,
+fn solve_word<S: Solve, L: Ledger>(
+    solver: &S,
+    steps: &mut Steps<L>,
     net: &Net,
     book: &[Property],
     verdicts: &mut [Verdict],
     prefix: &Prefix,
     set: FailSet,
 ) -> Result<Bits64, NoMemory>
-    requires same { S.net solver.old ≡ net.now }
+    requires same { S.net solver.now ≡ net.now }
     requires set { IsPermitted (length net.now.links) 3 set }
     requires long { length book.now ≡ length verdicts.old }
-    ensures net { S.net solver.new ≡ net.now }
     ensures word { IfOk result (λ word. word ≡ (S.analysis net.now).idle prefix.now set) }
     ensures verdicts { OnOk result (AllTurn (IsMarked net.now (S.analysis net.now) prefix.now set) book.now verdicts.old verdicts.new) }
-    ensures tick { S.ticks solver.new ≡ S.ticks solver.old + 1 }
+    ensures tick { steps.new ≡ steps.old + 1 }
 {
-    let found = solver.solve(prefix, set)?;
+    let found = solver.solve(steps, prefix, set)?;
     mark(solver, net, prefix, set, &found, book, verdicts);
     Ok(solver.idle(prefix, set, &found))
 }
 
 // The word of a set, and whether the set was solved for it.
-fn word_for<S: Solve>(
-    solver: &mut S,
+fn word_for<S: Solve, L: Ledger>(
+    solver: &S,
+    steps: &mut Steps<L>,
     net: &Net,
     words: &[Bits64],
     book: &[Property],
@@ -59,21 +62,23 @@ fn word_for<S: Solve>(
 ) -> Result<(Bits64, bool), NoMemory>
     requires few { links ≤ 64 }
     requires links { links ≡ length net.now.links }
-    requires same { S.net solver.old ≡ net.now }
+    requires same { S.net solver.now ≡ net.now }
     requires set { IsPermitted links 3 set }
     requires place { place_of links set ≡ length words.now }
     requires long { length book.now ≡ length verdicts.old }
     requires reusable { AreReusable links (S.analysis net.now) }
     requires words { AreWords ((S.analysis net.now).idle prefix.now) links words.now }
-    ensures net { S.net solver.new ≡ net.now }
     ensures word { IfOk result (λ found. found.0 ≡ (S.analysis net.now).idle prefix.now (representative ((S.analysis net.now).idle prefix.now) set)) }
     ensures own { IfOk result (λ found. found.1 ≡ is_own ((S.analysis net.now).idle prefix.now) set) }
     ensures verdicts { IfOk result (λ found. AreMarkedIf net.now (S.analysis net.now) prefix.now set found.1 book.now verdicts.old verdicts.new) }
-    ensures tick { IfOk result (λ found. S.ticks solver.new ≡ S.ticks solver.old + (if found.1 then 1 else 0)) }
+    ensures tick { IfOk result (λ found. steps.new ≡ steps.old + (if found.1 then 1 else 0)) }
 {
     match find_spare(words, links, set) {
         Some(link) => Ok((word_at(words, links, set.without(link)), false)),
-        None => Ok((solve_word(solver, net, book, verdicts, prefix, set)?, true)),
+        None => Ok((
+            solve_word(solver, steps, net, book, verdicts, prefix, set)?,
+            true,
+        )),
     }
 }
 
@@ -86,8 +91,9 @@ fn more_solved(solved: u64, fresh: bool) -> u64
 }
 
 // One set more.
-fn step<S: Solve>(
-    solver: &mut S,
+fn step<S: Solve, L: Ledger>(
+    solver: &S,
+    steps: &mut Steps<L>,
     net: &Net,
     sweep: &mut Sweep,
     book: &[Property],
@@ -98,19 +104,20 @@ fn step<S: Solve>(
 ) -> Result<(), NoMemory>
     requires few_links { links ≤ 64 }
     requires links { links ≡ length net.now.links }
-    requires same { S.net solver.old ≡ net.now }
+    requires same { S.net solver.now ≡ net.now }
     requires set { IsPermitted links 3 set }
     requires place { place_of links set ≡ length sweep.old.words }
     requires few { sweep.old.solved + 1 < 2 ^ 64 }
     requires long { length book.now ≡ length verdicts.old }
     requires reusable { AreReusable links (S.analysis net.now) }
     requires words { AreWords ((S.analysis net.now).idle prefix.now) links sweep.old.words }
-    ensures net { S.net solver.new ≡ net.now }
     ensures step { OnOk result (IsStep net.now (S.analysis net.now) links prefix.now book.now set sweep.old sweep.new verdicts.old verdicts.new) }
-    ensures tick { OnOk result (S.ticks solver.new + sweep.old.solved ≡ S.ticks solver.old + sweep.new.solved) }
+    ensures tick { OnOk result (steps.new + sweep.old.solved ≡ steps.old + sweep.new.solved) }
 {
     let words = sweep.words.as_slice();
-    let (word, fresh) = word_for(solver, net, words, book, verdicts, links, prefix, set)?;
+    let (word, fresh) = word_for(
+        solver, steps, net, words, book, verdicts, links, prefix, set,
+    )?;
     sweep.words.push(word)?;
     sweep.solved = more_solved(sweep.solved, fresh);
     Ok(())
@@ -118,8 +125,9 @@ fn step<S: Solve>(
 
 /// Goes over the sets of at most `most` links for one prefix: marks the verdicts of its properties, and says how many
 /// sets were solved.
-pub(crate) fn walk<S: Solve>(
-    solver: &mut S,
+pub(crate) fn walk<S: Solve, L: Ledger>(
+    solver: &S,
+    steps: &mut Steps<L>,
     alloc: Global,
     net: &Net,
     book: &[Property],
@@ -131,14 +139,13 @@ pub(crate) fn walk<S: Solve>(
     requires few { links ≤ 64 }
     requires links { links ≡ length net.now.links }
     requires most { most ≤ 3 }
-    requires same { S.net solver.old ≡ net.now }
+    requires same { S.net solver.now ≡ net.now }
     requires long { length book.now ≡ length verdicts.old }
     requires reusable { AreReusable links (S.analysis net.now) }
-    ensures net { S.net solver.new ≡ net.now }
     ensures judged { OnOk result (AllTurn (IsJudged net.now (S.analysis net.now) prefix.now most) book.now verdicts.old verdicts.new) }
     ensures solved { IfOk result (λ solved. solved ≡ solved_count ((S.analysis net.now).idle prefix.now) links most) }
     ensures small { IfOk result (λ solved. solved < 2 ^ 32) }
-    ensures ticks { IfOk result (λ solved. S.ticks solver.new ≡ S.ticks solver.old + solved) }
+    ensures ticks { IfOk result (λ solved. steps.new ≡ steps.old + solved) }
 {
     let total = count(links, most);
     let mut sweep = Sweep {
@@ -147,7 +154,9 @@ pub(crate) fn walk<S: Solve>(
     };
     let mut at = Some(first());
     while let Some(set) = at {
-        step(solver, net, &mut sweep, book, verdicts, links, prefix, set)?;
+        step(
+            solver, steps, net, &mut sweep, book, verdicts, links, prefix, set,
+        )?;
         at = next(links, most, set);
     }
     Ok(sweep.solved)

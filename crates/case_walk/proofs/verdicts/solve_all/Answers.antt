@@ -8,7 +8,6 @@ use Rattle.case_walk.proofs.verdicts.solve_all.Goals as goal
 pub loop-i-init : goal.loop-i-init
 loop-i-init g c = record {
   progress = progress_starts c.args.net.now (g.S.Solve.analysis c.args.net.now) c.args.book.now c.args.verdicts.now c.requires.opening;
-  net = c.requires.same;
   ticks = omega arith;
 }
 
@@ -19,7 +18,6 @@ pub loop-i-preserved : goal.loop-i-preserved
 loop-i-preserved g c = record {
   progress = progress_on c.args.net.now (g.S.Solve.analysis c.args.net.now) c.args.links c.args.book.now c.loop-i.i c.in_ok-solved.field-0 c.loop-i.solved c.index-book-i.result c.loop-i.verdicts c.solve_at.new.verdicts c.requires.links c.loop-i-test.true c.loop-i.invariant.progress c.index-book-i.is
       c.in_ok-solved.ensures.brings c.in_ok-solved.ensures.solved c.in_ok-solved.ensures.small;
-  net = c.in_ok-solved.ensures.net;
   ticks = (let t = c.in_ok-solved.ensures.ticks in let b = c.loop-i.invariant.ticks in omega arith);
 }
 

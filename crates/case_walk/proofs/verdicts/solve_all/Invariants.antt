@@ -5,6 +5,5 @@ use Rattle.case_walk.proofs.verdicts.solve_all.Given as goal
 abbrev pub invariant-loop-i : goal.invariant-loop-i
 invariant-loop-i g l = record {
   progress : IsProgress l.net (g.S.Solve.analysis l.net) l.book l.i l.solved l.verdicts;
-  net : g.S.Solve.net l.solver ≡ l.net;
-  ticks : g.S.Solve.ticks l.solver ≡ g.S.Solve.ticks l.initial.solver + l.solved;
+  ticks : l.steps ≡ l.initial.steps + l.solved;
 }

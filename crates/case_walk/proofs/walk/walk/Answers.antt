@@ -11,7 +11,6 @@ loop-at-init g c = record {
   walk = (
       let w = walk_starts c.args.net.now (g.S.Solve.analysis c.args.net.now) c.args.links c.args.prefix.now c.args.most c.args.book.now c.args.verdicts.now (Some c.first.result) c.requires.long (c.first.ensures.first c.args.links c.args.most) in
       subst (λ (ws : List ℕ). IsWalk c.args.net.now (g.S.Solve.analysis c.args.net.now) c.args.links c.args.prefix.now c.args.most c.args.book.now c.args.verdicts.now (record { words = ws; solved = 0 }) c.args.verdicts.now (Some c.first.result)) (sym c.new.ensures) w);
-  net = c.requires.same;
   ticks = omega arith;
 }
 
@@ -44,7 +43,6 @@ pub loop-at-preserved : goal.loop-at-preserved
 loop-at-preserved g c = record {
   walk = walk_on c.args.net.now (g.S.Solve.analysis c.args.net.now) c.args.links c.args.prefix.now c.args.most c.args.book.now c.args.verdicts.now c.loop-at.verdicts c.step.new.verdicts c.loop-at.sweep c.step.new.sweep c.loop-at.at c.next-at.result c.in-Some.set
       c.requires.reusable c.requires.most c.loop-at.invariant.walk c.in-Some.is c.in_ok-step.ensures.step c.next-at.ensures.behind;
-  net = c.in_ok-step.ensures.net;
   ticks = (let t = c.in_ok-step.ensures.tick in let b = c.loop-at.invariant.ticks in omega arith);
 }
 

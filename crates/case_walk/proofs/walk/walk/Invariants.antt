@@ -6,8 +6,7 @@ use Rattle.case_walk.proofs.walk.walk.Given as goal
 abbrev pub invariant-loop-at : goal.invariant-loop-at
 invariant-loop-at g l = record {
   walk : IsWalk l.net (g.S.Solve.analysis l.net) l.links l.prefix l.most l.book l.initial.verdicts l.sweep l.verdicts l.at;
-  net : g.S.Solve.net l.solver ≡ l.net;
-  ticks : g.S.Solve.ticks l.solver ≡ g.S.Solve.ticks l.initial.solver + l.sweep.solved;
+  ticks : l.steps ≡ l.initial.steps + l.sweep.solved;
 }
 
 abbrev pub decreases-loop-at : goal.decreases-loop-at
