@@ -21,5 +21,5 @@ mod words;
 pub use counts::cases;
 pub use laws::{law_of_cases, law_of_no_idle_links, law_of_own_sets, law_of_representatives};
 pub use refusal::CertifyRefusal;
-pub use solver::Solve;
+pub use solver::{Solve, Workers};
 pub use verdicts::verdicts_of;

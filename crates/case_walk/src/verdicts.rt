@@ -11,13 +11,14 @@ ghost use Rattle.case_walk.specs.Outcomes.{AreTicks, IsAnswer, IsOutcome};
 
 use crate::counts::{cases, is_lead, link_count, most_of};
 use crate::refusal::CertifyRefusal;
-use crate::solver::Solve;
+use crate::solver::{Solve, Workers};
 use crate::walk::walk;
 use net_types::{List, Net, NoMemory};
-use outside::Steps;
+use outside::{Gate, Steps};
 use property_book::{Outcome, Property, Verdict, applicable};
 use std::alloc::Global;
 use std::sync::ledger::Ledger;
+use std::thread::Threads;
 
 /// How many cases are solved at most.
 const MOST_CASES: u64 = 50_000;
@@ -44,8 +45,9 @@ fn openings(alloc: Global, net: &Net, book: &[Property]) -> Result<Vec<Verdict>,
 }
 
 // Solves the cases of the property's prefix, if it leads, and says how many were solved.
-fn solve_at<S: Solve, L: Ledger>(
+fn solve_at<S: Solve, R: Threads + Sync, G: Gate + Sync, L: Ledger>(
     solver: &S,
+    workers: &Workers<'_, R, G>,
     steps: &mut Steps<L>,
     alloc: Global,
     net: &Net,
@@ -58,6 +60,8 @@ fn solve_at<S: Solve, L: Ledger>(
     requires few_links { links ≤ 64 }
     requires links { links ≡ length net.now.links }
     requires same { S.net solver.now ≡ net.now }
+    requires some { 0 < workers.now.count }
+    requires crew { workers.now.count ≤ 8 }
     requires few { All (λ property. property.failures ≤ 3) book.now }
     requires long { length book.now ≡ length verdicts.old }
     requires reusable { AreReusable links (S.analysis net.now) }
@@ -70,6 +74,7 @@ fn solve_at<S: Solve, L: Ledger>(
         let most = most_of(net, &property.prefix, book);
         walk(
             solver,
+            workers,
             steps,
             alloc,
             net,
@@ -85,8 +90,9 @@ fn solve_at<S: Solve, L: Ledger>(
 }
 
 // Solves the cases of each prefix, and says how many were solved.
-fn solve_all<S: Solve, L: Ledger>(
+fn solve_all<S: Solve, R: Threads + Sync, G: Gate + Sync, L: Ledger>(
     solver: &S,
+    workers: &Workers<'_, R, G>,
     steps: &mut Steps<L>,
     alloc: Global,
     net: &Net,
@@ -97,6 +103,8 @@ fn solve_all<S: Solve, L: Ledger>(
     requires few_links { links ≤ 64 }
     requires links { links ≡ length net.now.links }
     requires same { S.net solver.now ≡ net.now }
+    requires some { 0 < workers.now.count }
+    requires crew { workers.now.count ≤ 8 }
     requires few { All (λ property. property.failures ≤ 3) book.now }
     requires short { length book.now ≤ 64 }
     requires reusable { AreReusable links (S.analysis net.now) }
@@ -110,15 +118,16 @@ fn solve_all<S: Solve, L: Ledger>(
     for (i, property) in book.iter().enumerate() {
         let later = &book[i + 1..];
         solved += solve_at(
-            solver, steps, alloc, net, book, verdicts, links, property, later,
+            solver, workers, steps, alloc, net, book, verdicts, links, property, later,
         )?;
     }
     Ok(solved)
 }
 
 // What is found of a book of few cases.
-fn outcome_of<S: Solve, L: Ledger>(
+fn outcome_of<S: Solve, R: Threads + Sync, G: Gate + Sync, L: Ledger>(
     solver: &S,
+    workers: &Workers<'_, R, G>,
     steps: &mut Steps<L>,
     alloc: Global,
     net: &Net,
@@ -126,6 +135,8 @@ fn outcome_of<S: Solve, L: Ledger>(
     total: u64,
 ) -> Result<Outcome, NoMemory>
     requires same { S.net solver.now ≡ net.now }
+    requires some { 0 < workers.now.count }
+    requires crew { workers.now.count ≤ 8 }
     requires few { All (λ property. property.failures ≤ 3) book.now }
     requires short { length book.now ≤ 64 }
     requires reusable { AreReusable (length net.now.links) (S.analysis net.now) }
@@ -135,7 +146,16 @@ fn outcome_of<S: Solve, L: Ledger>(
 {
     let links = link_count(net);
     let mut verdicts = openings(alloc, net, book)?;
-    let solved = solve_all(solver, steps, alloc, net, book, &mut verdicts, links)?;
+    let solved = solve_all(
+        solver,
+        workers,
+        steps,
+        alloc,
+        net,
+        book,
+        &mut verdicts,
+        links,
+    )?;
     Ok(Outcome {
         verdicts: List::from_vec(verdicts),
         solved,
@@ -150,14 +170,17 @@ fn outcome_of<S: Solve, L: Ledger>(
 ///
 /// [`CertifyRefusal::CasesLimit`] where the book has more than 50,000 cases, before any is solved;
 /// [`CertifyRefusal::NoMemory`] where there was none.
-pub fn verdicts_of<S: Solve, L: Ledger>(
+pub fn verdicts_of<S: Solve, R: Threads + Sync, G: Gate + Sync, L: Ledger>(
     solver: &S,
+    workers: &Workers<'_, R, G>,
     steps: &mut Steps<L>,
     alloc: Global,
     net: &Net,
     book: &[Property],
 ) -> Result<Outcome, CertifyRefusal>
     requires same { S.net solver.now ≡ net.now }
+    requires some { 0 < workers.now.count }
+    requires crew { workers.now.count ≤ 8 }
     requires few { All (λ property. property.failures ≤ 3) book.now }
     requires short { length book.now ≤ 64 }
     requires reusable { AreReusable (length net.now.links) (S.analysis net.now) }
@@ -168,7 +191,7 @@ pub fn verdicts_of<S: Solve, L: Ledger>(
     if total > MOST_CASES {
         return Err(CertifyRefusal::CasesLimit(total));
     }
-    match outcome_of(solver, steps, alloc, net, book, total) {
+    match outcome_of(solver, workers, steps, alloc, net, book, total) {
         Ok(outcome) => Ok(outcome),
         Err(NoMemory) => Err(CertifyRefusal::NoMemory),
     }

@@ -10,14 +10,15 @@ ghost use Rattle.case_walk.specs.Words.{AreWords, IsStep};
 ghost use Rattle.case_walk.specs.Turns.{IsJudged};
 
 use crate::marks::mark;
-use crate::solver::Solve;
+use crate::solver::{Solve, Workers};
 use crate::words::{find_spare, word_at};
 use failure_sets::{count, first, next};
 use net_types::{Bits64, FailSet, List, Net, NoMemory, Prefix};
-use outside::Steps;
+use outside::{Gate, Steps};
 use property_book::{Property, Verdict};
 use std::alloc::Global;
 use std::sync::ledger::Ledger;
+use std::thread::Threads;
 
 /// How far the walk has come: the words of the sets, and how many of them were solved.
 #[derive(Debug, Drop)]
@@ -27,8 +28,9 @@ struct Sweep {
 }
 
 // The idle links of a set that is solved. The verdicts are marked with its case.
-fn solve_word<S: Solve, L: Ledger>(
+fn solve_word<S: Solve, R: Threads + Sync, G: Gate + Sync, L: Ledger>(
     solver: &S,
+    workers: &Workers<'_, R, G>,
     steps: &mut Steps<L>,
     net: &Net,
     book: &[Property],
@@ -37,20 +39,23 @@ fn solve_word<S: Solve, L: Ledger>(
     set: FailSet,
 ) -> Result<Bits64, NoMemory>
     requires same { S.net solver.now ≡ net.now }
+    requires some { 0 < workers.now.count }
+    requires crew { workers.now.count ≤ 8 }
     requires set { IsPermitted (length net.now.links) 3 set }
     requires long { length book.now ≡ length verdicts.old }
     ensures word { IfOk result (λ word. word ≡ (S.analysis net.now).idle prefix.now set) }
     ensures verdicts { OnOk result (AllTurn (IsMarked net.now (S.analysis net.now) prefix.now set) book.now verdicts.old verdicts.new) }
     ensures tick { steps.new ≡ steps.old + 1 }
 {
-    let found = solver.solve(steps, prefix, set)?;
+    let found = solver.solve(workers, steps, prefix, set)?;
     mark(solver, net, prefix, set, &found, book, verdicts);
     Ok(solver.idle(prefix, set, &found))
 }
 
 // The word of a set, and whether the set was solved for it.
-fn word_for<S: Solve, L: Ledger>(
+fn word_for<S: Solve, R: Threads + Sync, G: Gate + Sync, L: Ledger>(
     solver: &S,
+    workers: &Workers<'_, R, G>,
     steps: &mut Steps<L>,
     net: &Net,
     words: &[Bits64],
@@ -63,6 +68,8 @@ fn word_for<S: Solve, L: Ledger>(
     requires few { links ≤ 64 }
     requires links { links ≡ length net.now.links }
     requires same { S.net solver.now ≡ net.now }
+    requires some { 0 < workers.now.count }
+    requires crew { workers.now.count ≤ 8 }
     requires set { IsPermitted links 3 set }
     requires place { place_of links set ≡ length words.now }
     requires long { length book.now ≡ length verdicts.old }
@@ -76,7 +83,7 @@ fn word_for<S: Solve, L: Ledger>(
     match find_spare(words, links, set) {
         Some(link) => Ok((word_at(words, links, set.without(link)), false)),
         None => Ok((
-            solve_word(solver, steps, net, book, verdicts, prefix, set)?,
+            solve_word(solver, workers, steps, net, book, verdicts, prefix, set)?,
             true,
         )),
     }
@@ -91,8 +98,9 @@ fn more_solved(solved: u64, fresh: bool) -> u64
 }
 
 // One set more.
-fn step<S: Solve, L: Ledger>(
+fn step<S: Solve, R: Threads + Sync, G: Gate + Sync, L: Ledger>(
     solver: &S,
+    workers: &Workers<'_, R, G>,
     steps: &mut Steps<L>,
     net: &Net,
     sweep: &mut Sweep,
@@ -105,6 +113,8 @@ fn step<S: Solve, L: Ledger>(
     requires few_links { links ≤ 64 }
     requires links { links ≡ length net.now.links }
     requires same { S.net solver.now ≡ net.now }
+    requires some { 0 < workers.now.count }
+    requires crew { workers.now.count ≤ 8 }
     requires set { IsPermitted links 3 set }
     requires place { place_of links set ≡ length sweep.old.words }
     requires few { sweep.old.solved + 1 < 2 ^ 64 }
@@ -116,7 +126,7 @@ fn step<S: Solve, L: Ledger>(
 {
     let words = sweep.words.as_slice();
     let (word, fresh) = word_for(
-        solver, steps, net, words, book, verdicts, links, prefix, set,
+        solver, workers, steps, net, words, book, verdicts, links, prefix, set,
     )?;
     sweep.words.push(word)?;
     sweep.solved = more_solved(sweep.solved, fresh);
@@ -125,8 +135,9 @@ fn step<S: Solve, L: Ledger>(
 
 /// Goes over the sets of at most `most` links for one prefix: marks the verdicts of its properties, and says how many
 /// sets were solved.
-pub(crate) fn walk<S: Solve, L: Ledger>(
+pub(crate) fn walk<S: Solve, R: Threads + Sync, G: Gate + Sync, L: Ledger>(
     solver: &S,
+    workers: &Workers<'_, R, G>,
     steps: &mut Steps<L>,
     alloc: Global,
     net: &Net,
@@ -140,6 +151,8 @@ pub(crate) fn walk<S: Solve, L: Ledger>(
     requires links { links ≡ length net.now.links }
     requires most { most ≤ 3 }
     requires same { S.net solver.now ≡ net.now }
+    requires some { 0 < workers.now.count }
+    requires crew { workers.now.count ≤ 8 }
     requires long { length book.now ≡ length verdicts.old }
     requires reusable { AreReusable links (S.analysis net.now) }
     ensures judged { OnOk result (AllTurn (IsJudged net.now (S.analysis net.now) prefix.now most) book.now verdicts.old verdicts.new) }
@@ -155,7 +168,7 @@ pub(crate) fn walk<S: Solve, L: Ledger>(
     let mut at = Some(first());
     while let Some(set) = at {
         step(
-            solver, steps, net, &mut sweep, book, verdicts, links, prefix, set,
+            solver, workers, steps, net, &mut sweep, book, verdicts, links, prefix, set,
         )?;
         at = next(links, most, set);
     }

@@ -12,7 +12,7 @@ loop-i-init g c = record {
 }
 
 pub solve_at-requires-clause-long : goal.solve_at-requires-clause-long
-solve_at-requires-clause-long g c = sym (c.loop-i.auto.verdicts ∙ ap length c.requires.opening ∙ length-map c.args.book.now (opening c.args.net.now))
+solve_at-requires-clause-long g c κs within = sym (c.loop-i.auto.verdicts ∙ ap length c.requires.opening ∙ length-map c.args.book.now (opening c.args.net.now))
 
 pub loop-i-preserved : goal.loop-i-preserved
 loop-i-preserved g c = record {

@@ -15,15 +15,15 @@ loop-at-init g c = record {
 }
 
 pub step-requires-clause-set : goal.step-requires-clause-set
-step-requires-clause-set g c =
+step-requires-clause-set g c κs within =
     (is_coming c.args.net.now (g.S.Solve.analysis c.args.net.now) c.args.links c.args.prefix.now c.args.most c.args.book.now c.args.verdicts.now c.loop-at.verdicts c.loop-at.sweep c.loop-at.at c.in-Some.set c.requires.most c.loop-at.invariant.walk c.in-Some.is).permitted
 
 pub step-requires-clause-place : goal.step-requires-clause-place
-step-requires-clause-place g c =
+step-requires-clause-place g c κs within =
     (is_coming c.args.net.now (g.S.Solve.analysis c.args.net.now) c.args.links c.args.prefix.now c.args.most c.args.book.now c.args.verdicts.now c.loop-at.verdicts c.loop-at.sweep c.loop-at.at c.in-Some.set c.requires.most c.loop-at.invariant.walk c.in-Some.is).place
 
 pub step-requires-clause-few : goal.step-requires-clause-few
-step-requires-clause-few g c =
+step-requires-clause-few g c κs within =
     let r = (is_coming c.args.net.now (g.S.Solve.analysis c.args.net.now) c.args.links c.args.prefix.now c.args.most c.args.book.now c.args.verdicts.now c.loop-at.verdicts c.loop-at.sweep c.loop-at.at c.in-Some.set c.requires.most c.loop-at.invariant.walk c.in-Some.is).room in
     let n = c.count-total.ensures.number in
     let s = c.count-total.ensures.small in
