@@ -4,11 +4,11 @@
 ghost use Rattle.net_types.specs.NetValue.{NetValue};
 ghost use Rattle.case_walk.specs.Laws.{CasesAreAskedOnce, FirstBrokenIsOwn, MostIsGreatest, NothingIsReused, OwnHaveNoSpareLink, RepresentativesAgree, RepresentativesAreOwn};
 
-use crate::solver::Solve;
+use crate::reader::CaseReader;
 
 /// A set and its representative imply the same properties, and agree on the idle links outside the set; so the first
 /// set in which a property is broken is its own representative.
-pub fn law_of_representatives<S: Solve>()
+pub fn law_of_representatives<S: CaseReader>()
     ensures agree { (net : NetValue) → RepresentativesAgree (S.analysis net) }
     ensures first { (net : NetValue) → FirstBrokenIsOwn (S.analysis net) }
 {}
@@ -21,7 +21,7 @@ pub fn law_of_own_sets()
 
 /// Where no link is idle in any case, cases may be reused, each set is its own representative, and all cases are
 /// solved.
-pub fn law_of_no_idle_links<S: Solve>()
+pub fn law_of_no_idle_links<S: CaseReader>()
     ensures { (net : NetValue) → NothingIsReused (S.analysis net) }
 {}
 

@@ -4,7 +4,7 @@ ghost use Rattle.std.specs.Prelude.{◌≡◌, length};
 ghost use Rattle.case_walk.specs.Marks.{AllTurn, IsMarked, is_asked, verdict_with};
 
 use crate::counts::is_of;
-use crate::solver::Solve;
+use crate::reader::CaseReader;
 use net_types::{FailSet, Net, Prefix};
 use property_book::{Broken, Property, Verdict};
 
@@ -26,8 +26,8 @@ fn is_asked(net: &Net, prefix: &Prefix, set: FailSet, property: &Property) -> bo
 }
 
 // A property's verdict with the case.
-fn marked<S: Solve>(
-    solver: &S,
+fn marked<S: CaseReader>(
+    reader: &S,
     net: &Net,
     prefix: &Prefix,
     set: FailSet,
@@ -35,20 +35,20 @@ fn marked<S: Solve>(
     property: &Property,
     verdict: Verdict,
 ) -> Verdict
-    requires same { S.net solver.now ≡ net.now }
+    requires same { S.net reader.now ≡ net.now }
     requires case { S.is_result net.now prefix.now set found.now }
     ensures { IsMarked net.now (S.analysis net.now) prefix.now set property.now verdict result }
 {
     if is_asked(net, prefix, set, property) {
-        verdict_with(verdict, set, solver.implied(property, set, found))
+        verdict_with(verdict, set, reader.implied(property, set, found))
     } else {
         verdict
     }
 }
 
 /// Marks the verdicts of the properties with the case.
-pub(crate) fn mark<S: Solve>(
-    solver: &S,
+pub(crate) fn mark<S: CaseReader>(
+    reader: &S,
     net: &Net,
     prefix: &Prefix,
     set: FailSet,
@@ -56,12 +56,12 @@ pub(crate) fn mark<S: Solve>(
     book: &[Property],
     verdicts: &mut [Verdict],
 )
-    requires same { S.net solver.now ≡ net.now }
+    requires same { S.net reader.now ≡ net.now }
     requires case { S.is_result net.now prefix.now set found.now }
     requires long { length book.now ≡ length verdicts.old }
     ensures { AllTurn (IsMarked net.now (S.analysis net.now) prefix.now set) book.now verdicts.old verdicts.new }
 {
     for (j, property) in book.iter().enumerate() {
-        verdicts[j] = marked(solver, net, prefix, set, found, property, verdicts[j]);
+        verdicts[j] = marked(reader, net, prefix, set, found, property, verdicts[j]);
     }
 }

@@ -10,8 +10,8 @@ ghost use Rattle.case_walk.specs.Progress.{opening, Brings};
 ghost use Rattle.case_walk.specs.Outcomes.{AreTicks, IsAnswer, IsOutcome};
 
 use crate::counts::{cases, is_lead, link_count, most_of};
+use crate::reader::{CaseReader, Workers};
 use crate::refusal::CertifyRefusal;
-use crate::solver::{Solve, Workers};
 use crate::walk::walk;
 use net_types::{List, Net, NoMemory};
 use outside::{Gate, Steps};
@@ -45,8 +45,8 @@ fn openings(alloc: Global, net: &Net, book: &[Property]) -> Result<Vec<Verdict>,
 }
 
 // Solves the cases of the property's prefix, if it leads, and says how many were solved.
-fn solve_at<S: Solve, R: Threads + Sync, G: Gate + Sync, L: Ledger>(
-    solver: &S,
+fn solve_at<S: CaseReader, R: Threads + Sync, G: Gate + Sync, L: Ledger>(
+    reader: &S,
     workers: &Workers<'_, R, G>,
     steps: &mut Steps<L>,
     alloc: Global,
@@ -59,7 +59,7 @@ fn solve_at<S: Solve, R: Threads + Sync, G: Gate + Sync, L: Ledger>(
 ) -> Result<u64, NoMemory>
     requires few_links { links ≤ 64 }
     requires links { links ≡ length net.now.links }
-    requires same { S.net solver.now ≡ net.now }
+    requires same { S.net reader.now ≡ net.now }
     requires some { 0 < workers.now.count }
     requires crew { workers.now.count ≤ 8 }
     requires few { All (λ property. property.failures ≤ 3) book.now }
@@ -73,7 +73,7 @@ fn solve_at<S: Solve, R: Threads + Sync, G: Gate + Sync, L: Ledger>(
     if is_lead(net, property, later) {
         let most = most_of(net, &property.prefix, book);
         walk(
-            solver,
+            reader,
             workers,
             steps,
             alloc,
@@ -90,8 +90,8 @@ fn solve_at<S: Solve, R: Threads + Sync, G: Gate + Sync, L: Ledger>(
 }
 
 // Solves the cases of each prefix, and says how many were solved.
-fn solve_all<S: Solve, R: Threads + Sync, G: Gate + Sync, L: Ledger>(
-    solver: &S,
+fn solve_all<S: CaseReader, R: Threads + Sync, G: Gate + Sync, L: Ledger>(
+    reader: &S,
     workers: &Workers<'_, R, G>,
     steps: &mut Steps<L>,
     alloc: Global,
@@ -102,7 +102,7 @@ fn solve_all<S: Solve, R: Threads + Sync, G: Gate + Sync, L: Ledger>(
 ) -> Result<u64, NoMemory>
     requires few_links { links ≤ 64 }
     requires links { links ≡ length net.now.links }
-    requires same { S.net solver.now ≡ net.now }
+    requires same { S.net reader.now ≡ net.now }
     requires some { 0 < workers.now.count }
     requires crew { workers.now.count ≤ 8 }
     requires few { All (λ property. property.failures ≤ 3) book.now }
@@ -118,15 +118,15 @@ fn solve_all<S: Solve, R: Threads + Sync, G: Gate + Sync, L: Ledger>(
     for (i, property) in book.iter().enumerate() {
         let later = &book[i + 1..];
         solved += solve_at(
-            solver, workers, steps, alloc, net, book, verdicts, links, property, later,
+            reader, workers, steps, alloc, net, book, verdicts, links, property, later,
         )?;
     }
     Ok(solved)
 }
 
 // What is found of a book of few cases.
-fn outcome_of<S: Solve, R: Threads + Sync, G: Gate + Sync, L: Ledger>(
-    solver: &S,
+fn outcome_of<S: CaseReader, R: Threads + Sync, G: Gate + Sync, L: Ledger>(
+    reader: &S,
     workers: &Workers<'_, R, G>,
     steps: &mut Steps<L>,
     alloc: Global,
@@ -134,7 +134,7 @@ fn outcome_of<S: Solve, R: Threads + Sync, G: Gate + Sync, L: Ledger>(
     book: &[Property],
     total: u64,
 ) -> Result<Outcome, NoMemory>
-    requires same { S.net solver.now ≡ net.now }
+    requires same { S.net reader.now ≡ net.now }
     requires some { 0 < workers.now.count }
     requires crew { workers.now.count ≤ 8 }
     requires few { All (λ property. property.failures ≤ 3) book.now }
@@ -147,7 +147,7 @@ fn outcome_of<S: Solve, R: Threads + Sync, G: Gate + Sync, L: Ledger>(
     let links = link_count(net);
     let mut verdicts = openings(alloc, net, book)?;
     let solved = solve_all(
-        solver,
+        reader,
         workers,
         steps,
         alloc,
@@ -170,15 +170,15 @@ fn outcome_of<S: Solve, R: Threads + Sync, G: Gate + Sync, L: Ledger>(
 ///
 /// [`CertifyRefusal::CasesLimit`] where the book has more than 50,000 cases, before any is solved;
 /// [`CertifyRefusal::NoMemory`] where there was none.
-pub fn verdicts_of<S: Solve, R: Threads + Sync, G: Gate + Sync, L: Ledger>(
-    solver: &S,
+pub fn verdicts_of<S: CaseReader, R: Threads + Sync, G: Gate + Sync, L: Ledger>(
+    reader: &S,
     workers: &Workers<'_, R, G>,
     steps: &mut Steps<L>,
     alloc: Global,
     net: &Net,
     book: &[Property],
 ) -> Result<Outcome, CertifyRefusal>
-    requires same { S.net solver.now ≡ net.now }
+    requires same { S.net reader.now ≡ net.now }
     requires some { 0 < workers.now.count }
     requires crew { workers.now.count ≤ 8 }
     requires few { All (λ property. property.failures ≤ 3) book.now }
@@ -191,7 +191,7 @@ pub fn verdicts_of<S: Solve, R: Threads + Sync, G: Gate + Sync, L: Ledger>(
     if total > MOST_CASES {
         return Err(CertifyRefusal::CasesLimit(total));
     }
-    match outcome_of(solver, workers, steps, alloc, net, book, total) {
+    match outcome_of(reader, workers, steps, alloc, net, book, total) {
         Ok(outcome) => Ok(outcome),
         Err(NoMemory) => Err(CertifyRefusal::NoMemory),
     }

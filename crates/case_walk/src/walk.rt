@@ -2,6 +2,7 @@
 
 ghost use Rattle.std.specs.Prelude.{ℕ, ◌≡◌, ◌<◌, ◌≤◌, ◌+◌, ◌^◌, length, IfOk, OnOk, Some, if◌then◌else◌};
 ghost use Rattle.failure_sets.specs.SetOrder.{IsPermitted};
+ghost use Rattle.refine_rounds.specs.Results.{result_of};
 ghost use Rattle.failure_sets.specs.SetList.{failure_sets, place_of};
 ghost use Rattle.case_walk.specs.Representatives.{is_own, representative, solved_count};
 ghost use Rattle.case_walk.specs.Analysis.{AreReusable};
@@ -10,12 +11,13 @@ ghost use Rattle.case_walk.specs.Words.{AreWords, IsStep};
 ghost use Rattle.case_walk.specs.Turns.{IsJudged};
 
 use crate::marks::mark;
-use crate::solver::{Solve, Workers};
+use crate::reader::{CaseReader, Workers};
 use crate::words::{find_spare, word_at};
 use failure_sets::{count, first, next};
 use net_types::{Bits64, FailSet, List, Net, NoMemory, Prefix};
 use outside::{Gate, Steps};
 use property_book::{Property, Verdict};
+use refine_rounds::{CaseResult, solve_case};
 use std::alloc::Global;
 use std::sync::ledger::Ledger;
 use std::thread::Threads;
@@ -27,18 +29,37 @@ struct Sweep {
     solved: u64,
 }
 
-// The idle links of a set that is solved. The verdicts are marked with its case.
-fn solve_word<S: Solve, R: Threads + Sync, G: Gate + Sync, L: Ledger>(
-    solver: &S,
+// The result of the case of the prefix and the set, at one tick.
+fn solved<R: Threads + Sync, G: Gate + Sync, L: Ledger>(
     workers: &Workers<'_, R, G>,
     steps: &mut Steps<L>,
+    alloc: Global,
+    net: &Net,
+    prefix: &Prefix,
+    set: FailSet,
+) -> Result<CaseResult, NoMemory>
+    requires some { 0 < workers.now.count }
+    requires crew { workers.now.count ≤ 8 }
+    ensures case { IfOk result (λ case. case ≡ result_of net.now prefix.now set) }
+    ensures tick { steps.new ≡ steps.old + 1 }
+{
+    let (rt, count, gate) = (workers.rt, workers.count, workers.gate);
+    solve_case(rt, alloc, net, *prefix, set, count, gate, steps)
+}
+
+// The idle links of a set that is solved. The verdicts are marked with its case.
+fn solve_word<S: CaseReader, R: Threads + Sync, G: Gate + Sync, L: Ledger>(
+    reader: &S,
+    workers: &Workers<'_, R, G>,
+    steps: &mut Steps<L>,
+    alloc: Global,
     net: &Net,
     book: &[Property],
     verdicts: &mut [Verdict],
     prefix: &Prefix,
     set: FailSet,
 ) -> Result<Bits64, NoMemory>
-    requires same { S.net solver.now ≡ net.now }
+    requires same { S.net reader.now ≡ net.now }
     requires some { 0 < workers.now.count }
     requires crew { workers.now.count ≤ 8 }
     requires set { IsPermitted (length net.now.links) 3 set }
@@ -47,16 +68,18 @@ fn solve_word<S: Solve, R: Threads + Sync, G: Gate + Sync, L: Ledger>(
     ensures verdicts { OnOk result (AllTurn (IsMarked net.now (S.analysis net.now) prefix.now set) book.now verdicts.old verdicts.new) }
     ensures tick { steps.new ≡ steps.old + 1 }
 {
-    let found = solver.solve(workers, steps, prefix, set)?;
-    mark(solver, net, prefix, set, &found, book, verdicts);
-    Ok(solver.idle(prefix, set, &found))
+    let case = solved(workers, steps, alloc, net, prefix, set)?;
+    let found = reader.read(prefix, set, case);
+    mark(reader, net, prefix, set, &found, book, verdicts);
+    Ok(reader.idle(prefix, set, &found))
 }
 
 // The word of a set, and whether the set was solved for it.
-fn word_for<S: Solve, R: Threads + Sync, G: Gate + Sync, L: Ledger>(
-    solver: &S,
+fn word_for<S: CaseReader, R: Threads + Sync, G: Gate + Sync, L: Ledger>(
+    reader: &S,
     workers: &Workers<'_, R, G>,
     steps: &mut Steps<L>,
+    alloc: Global,
     net: &Net,
     words: &[Bits64],
     book: &[Property],
@@ -67,7 +90,7 @@ fn word_for<S: Solve, R: Threads + Sync, G: Gate + Sync, L: Ledger>(
 ) -> Result<(Bits64, bool), NoMemory>
     requires few { links ≤ 64 }
     requires links { links ≡ length net.now.links }
-    requires same { S.net solver.now ≡ net.now }
+    requires same { S.net reader.now ≡ net.now }
     requires some { 0 < workers.now.count }
     requires crew { workers.now.count ≤ 8 }
     requires set { IsPermitted links 3 set }
@@ -83,7 +106,9 @@ fn word_for<S: Solve, R: Threads + Sync, G: Gate + Sync, L: Ledger>(
     match find_spare(words, links, set) {
         Some(link) => Ok((word_at(words, links, set.without(link)), false)),
         None => Ok((
-            solve_word(solver, workers, steps, net, book, verdicts, prefix, set)?,
+            solve_word(
+                reader, workers, steps, alloc, net, book, verdicts, prefix, set,
+            )?,
             true,
         )),
     }
@@ -98,10 +123,11 @@ fn more_solved(solved: u64, fresh: bool) -> u64
 }
 
 // One set more.
-fn step<S: Solve, R: Threads + Sync, G: Gate + Sync, L: Ledger>(
-    solver: &S,
+fn step<S: CaseReader, R: Threads + Sync, G: Gate + Sync, L: Ledger>(
+    reader: &S,
     workers: &Workers<'_, R, G>,
     steps: &mut Steps<L>,
+    alloc: Global,
     net: &Net,
     sweep: &mut Sweep,
     book: &[Property],
@@ -112,7 +138,7 @@ fn step<S: Solve, R: Threads + Sync, G: Gate + Sync, L: Ledger>(
 ) -> Result<(), NoMemory>
     requires few_links { links ≤ 64 }
     requires links { links ≡ length net.now.links }
-    requires same { S.net solver.now ≡ net.now }
+    requires same { S.net reader.now ≡ net.now }
     requires some { 0 < workers.now.count }
     requires crew { workers.now.count ≤ 8 }
     requires set { IsPermitted links 3 set }
@@ -126,7 +152,7 @@ fn step<S: Solve, R: Threads + Sync, G: Gate + Sync, L: Ledger>(
 {
     let words = sweep.words.as_slice();
     let (word, fresh) = word_for(
-        solver, workers, steps, net, words, book, verdicts, links, prefix, set,
+        reader, workers, steps, alloc, net, words, book, verdicts, links, prefix, set,
     )?;
     sweep.words.push(word)?;
     sweep.solved = more_solved(sweep.solved, fresh);
@@ -135,8 +161,8 @@ fn step<S: Solve, R: Threads + Sync, G: Gate + Sync, L: Ledger>(
 
 /// Goes over the sets of at most `most` links for one prefix: marks the verdicts of its properties, and says how many
 /// sets were solved.
-pub(crate) fn walk<S: Solve, R: Threads + Sync, G: Gate + Sync, L: Ledger>(
-    solver: &S,
+pub(crate) fn walk<S: CaseReader, R: Threads + Sync, G: Gate + Sync, L: Ledger>(
+    reader: &S,
     workers: &Workers<'_, R, G>,
     steps: &mut Steps<L>,
     alloc: Global,
@@ -150,7 +176,7 @@ pub(crate) fn walk<S: Solve, R: Threads + Sync, G: Gate + Sync, L: Ledger>(
     requires few { links ≤ 64 }
     requires links { links ≡ length net.now.links }
     requires most { most ≤ 3 }
-    requires same { S.net solver.now ≡ net.now }
+    requires same { S.net reader.now ≡ net.now }
     requires some { 0 < workers.now.count }
     requires crew { workers.now.count ≤ 8 }
     requires long { length book.now ≡ length verdicts.old }
@@ -168,7 +194,7 @@ pub(crate) fn walk<S: Solve, R: Threads + Sync, G: Gate + Sync, L: Ledger>(
     let mut at = Some(first());
     while let Some(set) = at {
         step(
-            solver, workers, steps, net, &mut sweep, book, verdicts, links, prefix, set,
+            reader, workers, steps, alloc, net, &mut sweep, book, verdicts, links, prefix, set,
         )?;
         at = next(links, most, set);
     }

@@ -5,7 +5,7 @@ use Rattle.case_walk.proofs.walk.walk.Given as goal
 
 abbrev pub invariant-loop-at : goal.invariant-loop-at
 invariant-loop-at g l = record {
-  walk : IsWalk l.net (g.S.Solve.analysis l.net) l.links l.prefix l.most l.book l.initial.verdicts l.sweep l.verdicts l.at;
+  walk : IsWalk l.net (g.S.CaseReader.analysis l.net) l.links l.prefix l.most l.book l.initial.verdicts l.sweep l.verdicts l.at;
   ticks : l.steps ≡ l.initial.steps + l.sweep.solved;
 }
 

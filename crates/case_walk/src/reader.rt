@@ -1,16 +1,15 @@
-//! What solves the case of a prefix and a failure set.
+//! What reads the result of a case.
 
-ghost use Rattle.std.specs.Prelude.{ℕ, ◌≡◌, ◌<◌, ◌≤◌, ◌+◌, List as Seq, IfOk, length};
-ghost use Rattle.std.specs.Thread.{IsSync};
+ghost use Rattle.std.specs.Prelude.{ℕ, ◌≡◌, List as Seq};
 ghost use Rattle.net_types.specs.NetValue.{NetValue};
 ghost use Rattle.net_types.specs.PrefixValue.{PrefixValue};
-ghost use Rattle.failure_sets.specs.SetOrder.{IsPermitted};
+ghost use Rattle.refine_rounds.specs.Results.{result_of};
 ghost use Rattle.case_walk.specs.Analysis.{Analysis, Answers};
 
-use net_types::{Bits64, FailSet, NoMemory, Prefix};
-use outside::{Gate, Steps};
+use net_types::{Bits64, FailSet, Prefix};
+use outside::Gate;
 use property_book::{Broken, Property};
-use std::sync::ledger::Ledger;
+use refine_rounds::CaseResult;
 use std::thread::Threads;
 
 /// What a case is solved with.
@@ -24,9 +23,9 @@ pub struct Workers<'a, R: Threads + Sync, G: Gate + Sync> {
     pub gate: &'a G,
 }
 
-/// What solves the cases of a network, and reads what their results imply.
-pub trait Solve {
-    /// The result of a case.
+/// What reads of the results of the cases of a network which links are idle, and what they imply.
+pub trait CaseReader {
+    /// What is read of a case.
     type Found: Drop;
 
     ghost net: { Self → NetValue };
@@ -35,25 +34,10 @@ pub trait Solve {
 
     ghost is_result: { NetValue → PrefixValue → Seq ℕ → Self.Found → Type 0 };
 
-    /// The result of the case of this prefix with these links failed.
-    ///
-    /// # Errors
-    ///
-    /// [`NoMemory`] where there was none; the tick is made then too.
-    fn solve<R: Threads + Sync, G: Gate + Sync, L: Ledger>(
-        &self,
-        workers: &Workers<'_, R, G>,
-        steps: &mut Steps<L>,
-        prefix: &Prefix,
-        set: FailSet,
-    ) -> Result<Self::Found, NoMemory>
-        requires threads { IsSync R.row }
-        requires gate { IsSync G.row }
-        requires some { 0 < workers.now.count }
-        requires crew { workers.now.count ≤ 8 }
-        requires set { IsPermitted (length (net self.now).links) 3 set }
-        ensures case { IfOk result (λ found. is_result (net self.now) prefix.now set found) }
-        ensures tick { steps.new ≡ steps.old + 1 };
+    /// What is read of a case, whose result this is.
+    fn read(&self, prefix: &Prefix, set: FailSet, case: CaseResult) -> Self::Found
+        requires { case ≡ result_of (net self.now) prefix.now set }
+        ensures { is_result (net self.now) prefix.now set result };
 
     /// The idle links of a case, from its result.
     fn idle(&self, prefix: &Prefix, set: FailSet, found: &Self::Found) -> Bits64
