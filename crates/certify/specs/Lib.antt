@@ -1,3 +1,4 @@
 pub mod Results
+pub mod Counts
 pub mod Verdicts
 pub mod Laws

@@ -10,8 +10,8 @@ use Rattle.property_book.specs.declared.verdict.Verdict.TheVariants.{Certified, 
 use Rattle.property_book.specs.declared.verdict.Outcome.{Outcome}
 use Rattle.property_book.specs.Applicable.{barred}
 use Rattle.property_book.specs.Meaning.{HoldsIfCertified}
-use Rattle.certify.specs.Results.{IsBrokenWith, IsImpliedWith, analysis_of}
-use Rattle.case_walk.specs.Book.{solved_of, total_of}
+use Rattle.certify.specs.Results.{IsBrokenWith, IsImpliedWith}
+use Rattle.certify.specs.Counts.{solved_of, total_of}
 use Rattle.case_walk.specs.declared.refusal.CertifyRefusal.{CertifyRefusal}
 use Rattle.case_walk.specs.declared.refusal.CertifyRefusal.TheVariants.{CasesLimit, NoMemory}
 
@@ -40,7 +40,7 @@ pub record IsOutcome (net : NetValue) (book : Seq Property) (outcome : Outcome) 
   pub verdicts : AllZip (IsVerdict net) book outcome.verdicts
   pub holds : AllZip (HoldsIfCertified net) book outcome.verdicts
   pub total : outcome.total ≡ total_of net book
-  pub solved : outcome.solved ≡ solved_of net (analysis_of net) book
+  pub solved : outcome.solved ≡ solved_of net book
 
 -- what is answered of a book: its outcome where it has at most 50,000 cases, else how many it has
 abbrev pub Answers : NetValue → Seq Property → Result Outcome CertifyRefusal → Type 0

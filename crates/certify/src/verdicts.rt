@@ -2,11 +2,11 @@
 
 ghost use Rattle.std.specs.Prelude.{◌≡◌, ◌≤◌, ◌<◌, All, IfOk, length};
 ghost use Rattle.property_book.specs.Book.{IsAsked};
-ghost use Rattle.case_walk.specs.Book.{total_of};
+ghost use Rattle.certify.specs.Counts.{total_of};
 ghost use Rattle.certify.specs.Verdicts.{Answers, Ticks};
 
-use crate::solver::Solver;
-use case_walk::{CertifyRefusal, verdicts_of};
+use crate::reader::Reader;
+use case_walk::{CertifyRefusal, Workers, verdicts_of};
 use net_types::Net;
 use outside::{Gate, Steps};
 use property_book::{Outcome, Property};
@@ -33,7 +33,7 @@ pub fn cases(net: &Net, book: &[Property]) -> u64
 ///
 /// [`CertifyRefusal::CasesLimit`] where the book has more than 50,000 cases, before any is solved;
 /// [`CertifyRefusal::NoMemory`] where there was none.
-#[tactic(auto, using(crate::proofs::VerdictLemmas::are_reusable, crate::proofs::VerdictLemmas::answers))]
+#[tactic(auto, using(crate::proofs::VerdictLemmas::answers))]
 pub fn certify<R: Threads + Sync, G: Gate + Sync, L: Ledger>(
     rt: &R,
     alloc: Global,
@@ -52,12 +52,11 @@ pub fn certify<R: Threads + Sync, G: Gate + Sync, L: Ledger>(
     ensures ticks { Ticks steps.old steps.new result }
 {
     net.valid();
-    let solver = Solver {
+    let workers = Workers {
         rt,
-        alloc,
-        net,
-        workers,
+        count: workers,
         gate,
     };
-    verdicts_of(&solver, alloc, net, book, steps)
+    let reader = Reader { net };
+    verdicts_of(&reader, &workers, steps, alloc, net, book)
 }
