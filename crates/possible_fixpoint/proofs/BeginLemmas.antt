@@ -23,10 +23,10 @@ sources_between flow xs laws s = record {
   };
 }
 
-abbrev no_arcs : ArcSet
+abbrev pub no_arcs : ArcSet
 no_arcs = record { up = 0; down = 0 }
 
-never : (arc : Arc) → has_arc no_arcs arc ≡ true → ⊥
+pub never : (arc : Arc) → has_arc no_arcs arc ≡ true → ⊥
 never arc h = go arc.down h where
   go : (b : Bool) → has (links_of b no_arcs) arc.link ≡ true → ⊥
   go true h = let e = has_none arc.link in cc

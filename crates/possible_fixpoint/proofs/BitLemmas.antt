@@ -93,13 +93,13 @@ number_low arc n h = go arc.down where
 
 -- ---- sets of arcs
 
-with_same : (set : ArcSet) (arc : Arc) → has_arc (with_arc set arc) arc ≡ true
+pub with_same : (set : ArcSet) (arc : Arc) → has_arc (with_arc set arc) arc ≡ true
 with_same set arc = go arc.down where
   go : (b : Bool) → has_arc (with_arc set (record { link = arc.link; down = b })) (record { link = arc.link; down = b }) ≡ true
   go true = let e = has_more set.down arc.link arc.link in grind (arith, nat_tests)
   go false = let e = has_more set.up arc.link arc.link in grind (arith, nat_tests)
 
-with_other : (set : ArcSet) (arc a : Arc) → a ≢ arc → has_arc (with_arc set arc) a ≡ has_arc set a
+pub with_other : (set : ArcSet) (arc a : Arc) → a ≢ arc → has_arc (with_arc set arc) a ≡ has_arc set a
 with_other set arc a other = go arc.down a.down (λ e f. other (λ i. record { link = e i; down = f i })) where
   off : (s m n : ℕ) → n ≢ m → has (bit_or s (2 ^ m)) n ≡ has s n
   off s m n h = let e = has_more s m n in grind (arith, nat_tests)

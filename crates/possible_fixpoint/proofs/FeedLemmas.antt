@@ -110,7 +110,7 @@ feeding_falls flow seen set next before not = let l = and_le_l set before.left.0
 -- ---- lengthening
 
 -- what is fed by the arcs that gave is fed at the rows
-fed_by_is_fed : (flow : Flow) (xs : List Row) (seen : ArcSet) (set : ℕ) → AreGiving flow xs seen → IsFedBy flow seen set → IsFed flow xs (λ u. has set u)
+pub fed_by_is_fed : (flow : Flow) (xs : List Row) (seen : ArcSet) (set : ℕ) → AreGiving flow xs seen → IsFedBy flow seen set → IsFed flow xs (λ u. has set u)
 fed_by_is_fed flow xs seen set giving fed u h =
     let a = fed.arc u h in
     (a.0, record { lives = giving.lives a.0 a.1.gave; receiver = a.1.to; sender = a.1.from; gives = giving.gives a.0 a.1.gave })

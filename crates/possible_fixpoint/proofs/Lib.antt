@@ -15,3 +15,7 @@ pub mod PassLemmas
 pub mod FeedLemmas
 pub mod BeginLemmas
 pub mod NetLemmas
+pub mod NoteLemmas
+pub mod GatherLemmas
+pub mod WorkLemmas
+pub mod PhaseLemmas

@@ -30,7 +30,7 @@ raised_up xs at row h = record {
   ];
 }
 
-raised_rows : (xs : List Row) (at : ℕ) (row : Row) → at < length xs → AreRows xs → IsRow row → AreRows (up_at xs at row)
+pub raised_rows : (xs : List Row) (at : ℕ) (row : Row) → at < length xs → AreRows xs → IsRow row → AreRows (up_at xs at row)
 raised_rows xs at row h rows is = record {
   each = λ u low. elim (number_or u at) [
     | inl same ↦ rw (same, at_same xs at (joined (row_at xs at) row) h) (joined_is_row (row_at xs at) row (rows.each at h) is)

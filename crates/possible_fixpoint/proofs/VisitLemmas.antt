@@ -28,7 +28,7 @@ noted_up arc row before after n a h = elim (arc_or a arc) [
   | inr not ↦ n.other a not ∙ h
 ]
 
-noted_down : (arc : Arc) (row : Row) (before after : ArcSet) → IsNoted arc row before after → (a : Arc) → has_arc after a ≡ true → (has_arc before a ≡ true) ⊎ ((a ≡ arc) × IsInhabited row)
+pub noted_down : (arc : Arc) (row : Row) (before after : ArcSet) → IsNoted arc row before after → (a : Arc) → has_arc after a ≡ true → (has_arc before a ≡ true) ⊎ ((a ≡ arc) × IsInhabited row)
 noted_down arc row before after n a h = elim (arc_or a arc) [
   | inl same ↦ elim (n.only (subst (λ (x : Arc). has_arc after x ≡ true) same h)) [
     | inl was ↦ inl (subst (λ (x : Arc). has_arc before x ≡ true) (sym same) was)

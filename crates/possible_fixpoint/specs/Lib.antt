@@ -6,3 +6,6 @@ pub mod Laws
 pub mod Marks
 pub mod Feeding
 pub mod Standing
+pub mod Notebook
+pub mod Working
+pub mod Phases

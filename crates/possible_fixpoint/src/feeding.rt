@@ -65,8 +65,8 @@ fn receivers<A: Analysis>(analysis: &A, gave: &ArcSet, set: Bits64) -> Bits64
     found
 }
 
-// The greatest set whose members each are given something by a member: the arcs are those that were seen to give.
-fn fed<A: Analysis>(analysis: &A, gave: &ArcSet) -> Bits64
+/// The greatest set whose members each are given something by a member: the arcs are those that were seen to give.
+pub(crate) fn fed<A: Analysis>(analysis: &A, gave: &ArcSet) -> Bits64
     requires solvable { Solvable (A.flow analysis.now) }
     requires living { AreLiving (A.flow analysis.now) gave.now }
     ensures greatest { IsGreatestFed (A.flow analysis.now) gave.now result }
@@ -80,8 +80,8 @@ fn fed<A: Analysis>(analysis: &A, gave: &ArcSet) -> Bits64
     set
 }
 
-// The row with paths of at least so many entries left open.
-fn longer(row: &Row, most: u64) -> Row
+/// The row with paths of at least so many entries left open.
+pub(crate) fn longer(row: &Row, most: u64) -> Row
     ensures { result ≡ raised_row most row.now }
 {
     let long = row.length;

@@ -9,7 +9,7 @@ ghost use Rattle.possible_fixpoint.specs.Possible.{possible};
 
 use crate::alive::Alive;
 use crate::analysis::Analysis;
-use crate::passes::solve;
+use crate::{passes, phases};
 use abstract_maps::{local_row, transfer};
 use abstract_route::{Row, bottom_value, carried, is_inhabited};
 use net_types::{Arc, FailSet, List, Net, NoMemory, Prefix, distance_at};
@@ -82,12 +82,13 @@ impl<'a> Analysis for Case<'a> {
 
 /// The rows of all that each router may hold, one for each router: the least in which each row is above that of the
 /// router's living local route, and above what each living arc gives of its sender's row. The distances are those of
-/// OSPF with these links failed; the workers are 1 to 8. The answer is the same for every number of them and every gate; the
-/// caller's thread does all the work, and the gate is not called. This project's own.
+/// OSPF with these links failed; the workers are 1 to 8, all but one in a thread of its own, and pass the gate before each
+/// of their turns. The answer is the same for every number of them, every gate and every order of their steps. This
+/// project's own.
 ///
 /// # Errors
 ///
-/// [`NoMemory`] where there was none for the rows.
+/// [`NoMemory`] where there was none for the rows or the board.
 pub fn solve_possible<R: Threads + Sync, G: Gate + Sync>(
     rt: &R,
     alloc: Global,
@@ -113,6 +114,33 @@ pub fn solve_possible<R: Threads + Sync, G: Gate + Sync>(
         distances,
         alive,
     };
-    let rows = solve(alloc, &case)?;
+    phases::solve(rt, alloc, &case, workers, gate)
+}
+
+/// The same by the plain solver: passes over one list of rows, in this thread, without a board. Tests compare the two.
+///
+/// # Errors
+///
+/// [`NoMemory`] where there was none for the rows.
+pub fn solve_plainly(
+    alloc: Global,
+    net: &Net,
+    prefix: Prefix,
+    failed: FailSet,
+    distances: &[Option<u64>],
+    alive: &Alive,
+) -> Result<List<Row>, NoMemory>
+    requires distances { AreDistances net.now prefix failed distances.now }
+    ensures { IfOk result (λ rows. rows ≡ possible (flow_of net.now prefix failed distances.now alive.now)) }
+{
+    net.valid();
+    let case = Case {
+        net,
+        prefix,
+        failed: &failed,
+        distances,
+        alive,
+    };
+    let rows = passes::solve(alloc, &case)?;
     Ok(List::from_vec(rows))
 }
