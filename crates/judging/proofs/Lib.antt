@@ -1,1 +1,1 @@
-pub mod SpeakerLemmas
+pub mod LimitLemmas

@@ -1,15 +1,12 @@
 //! The networks and the book of a change, or the first of them that is refused.
 
-ghost use Rattle.std.specs.Prelude.{◌≡◌, ◌≤◌, All, IfOk, length, option_map};
-ghost use Rattle.net_types.specs.NetValue.{NetValue};
-ghost use Rattle.net_types.specs.Arcs.{HasNoSession};
-ghost use Rattle.topology.specs.Meaning.{SessionsHaveAsns};
+ghost use Rattle.std.specs.Prelude.{◌≡◌, ◌≤◌, All, IfOk, Ok, length};
 ghost use Rattle.property_book.specs.Book.{IsAsked};
-ghost use Rattle.judging.specs.Inputs.{AreAnalysed, Judges, analysed, analysed_network, book_of, first_speaker, inputs_of, network_of, speaks_bgp};
+ghost use Rattle.judging.specs.Inputs.{CanBeJudged, Judges, book_of, inputs_of, inputs_with, network_of, networks_of};
 
 use crate::refusals::{JudgeRefusal, NotJudged};
 use bundle_reader::read_bundle;
-use net_types::{BundleRefusal, BundleSide, FormRefusal, List, Net, Router, SourceFile, Text};
+use net_types::{BundleRefusal, BundleSide, FormRefusal, List, Net, SourceFile};
 use property_book::{Property, read_properties};
 use std::alloc::Global;
 
@@ -24,55 +21,34 @@ pub struct Inputs {
     pub book: List<Property>,
 }
 
-fn speaks_bgp(router: &Router) -> bool
-    ensures { result ≡ speaks_bgp router.now }
-{
-    router.asn.is_some()
+/// The networks of a change.
+#[derive(Drop)]
+pub(crate) struct Networks {
+    /// The one before it.
+    pub(crate) base: Net,
+    /// The one after it.
+    pub(crate) new: Net,
 }
 
-// The host of the first router that speaks BGP.
-fn first_speaker(net: &Net) -> Option<&str>
-    ensures { option_map (λ host. host.now) result ≡ first_speaker net.now }
-{
-    match net.routers().iter().find(|router| speaks_bgp(router)) {
-        Some(router) => Some(router.host.as_str()),
-        None => None,
+impl Networks {
+    fn with(self, book: List<Property>) -> Inputs
+        ensures { result ≡ record { base = self.base; new = self.new; book = book } }
+    {
+        let Networks { base, new } = self;
+        Inputs { base, new, book }
     }
-}
-
-// The network, unless a router of it speaks BGP.
-fn analysed(alloc: Global, side: BundleSide, net: Net) -> Result<Net, NotJudged>
-    requires { SessionsHaveAsns net }
-    ensures judges { Judges (analysed side net) result }
-    ensures quiet { IfOk result (λ net. HasNoSession net) }
-{
-    if let Some(host) = first_speaker(&net) {
-        let host = Text::from_str(alloc, host)?;
-        return Err(NotJudged::Refused(JudgeRefusal::SpeaksBgp(side, host)));
-    }
-    Ok(net)
 }
 
 // The network of a side's files.
+#[tactic(auto, unfolding(crate::specs::Inputs::network_of))]
 fn network_of(alloc: Global, side: BundleSide, files: &[SourceFile]) -> Result<Net, NotJudged>
-    ensures judges { Judges (network_of side files.now) result }
-    ensures sessions { IfOk result (λ net. SessionsHaveAsns net) }
+    ensures { Judges (network_of side files.now) result }
 {
     match read_bundle(alloc, files) {
         Ok(net) => Ok(net),
         Err(BundleRefusal::NoMemory) => Err(NotJudged::NoMemory),
         Err(refusal) => Err(NotJudged::Refused(JudgeRefusal::Bundle(side, refusal))),
     }
-}
-
-// The network of a side's files, unless a router of it speaks BGP.
-#[tactic(auto, unfolding(crate::specs::Inputs::analysed_network))]
-fn analysed_network(alloc: Global, side: BundleSide, files: &[SourceFile]) -> Result<Net, NotJudged>
-    ensures judges { Judges (analysed_network side files.now) result }
-    ensures quiet { IfOk result (λ net. HasNoSession net) }
-{
-    let net = network_of(alloc, side, files)?;
-    analysed(alloc, side, net)
 }
 
 // The book of a property file.
@@ -89,13 +65,27 @@ fn book_of(alloc: Global, text: &[u8]) -> Result<List<Property>, NotJudged>
     }
 }
 
+// The networks of the files before and after a change.
+#[tactic(auto, unfolding(crate::specs::Inputs::networks_of))]
+fn networks_of(
+    alloc: Global,
+    base: &[SourceFile],
+    new: &[SourceFile],
+) -> Result<Networks, NotJudged>
+    ensures { Judges (networks_of base.now new.now) result }
+{
+    let base = network_of(alloc, BundleSide::Base, base)?;
+    let new = network_of(alloc, BundleSide::New, new)?;
+    Ok(Networks { base, new })
+}
+
 /// The networks of the files before and after a change, and the book of a property file.
 ///
 /// # Errors
 ///
 /// The first refusal that stands: of the files before, of those after, of the property file. Want of memory may
 /// come at any time.
-#[tactic(auto, unfolding(crate::specs::Inputs::inputs_of))]
+#[tactic(auto, unfolding(crate::specs::Inputs::inputs_with))]
 pub fn read_inputs(
     alloc: Global,
     base: &[SourceFile],
@@ -103,10 +93,29 @@ pub fn read_inputs(
     book: &[u8],
 ) -> Result<Inputs, NotJudged>
     ensures judges { Judges (inputs_of base.now new.now book.now) result }
-    ensures analysed { IfOk result (λ inputs. AreAnalysed inputs) }
+    ensures judged { IfOk result (λ inputs. CanBeJudged inputs) }
 {
-    let base = analysed_network(alloc, BundleSide::Base, base)?;
-    let new = analysed_network(alloc, BundleSide::New, new)?;
+    let networks = networks_of(alloc, base, new)?;
     let book = book_of(alloc, book)?;
-    Ok(Inputs { base, new, book })
+    Ok(networks.with(book))
+}
+
+/// The networks of the files before and after a change, with this book.
+///
+/// # Errors
+///
+/// The first refusal that stands: of the files before, of those after. Want of memory may come at any time.
+#[tactic(auto, unfolding(crate::specs::Inputs::inputs_with))]
+pub fn inputs_of(
+    alloc: Global,
+    base: &[SourceFile],
+    new: &[SourceFile],
+    book: List<Property>,
+) -> Result<Inputs, NotJudged>
+    requires asked { All IsAsked book }
+    requires few { length book ≤ 64 }
+    ensures judges { Judges (inputs_with base.now new.now (Ok book)) result }
+    ensures judged { IfOk result (λ inputs. CanBeJudged inputs) }
+{
+    Ok(networks_of(alloc, base, new)?.with(book))
 }

@@ -1,0 +1,5 @@
+pub mod Links
+pub mod Names
+pub mod Ports
+pub mod Files
+pub mod Book
