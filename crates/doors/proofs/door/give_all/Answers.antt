@@ -1,4 +1,4 @@
-use Rattle.std.proofs.Common.{◌≡◌, ◌≤◌, ◌∙◌, ap, Some, take, length, arith}
+use Rattle.std.proofs.Common.{◌≤◌, ◌∙◌, ap, Some, length, arith}
 use Rattle.std.proofs.lemmas.List.{take_all}
 use Rattle.doors.specs.Door.{giving}
 use Rattle.doors.proofs.GivingLemmas.{told_more}

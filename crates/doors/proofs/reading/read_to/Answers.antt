@@ -1,4 +1,4 @@
-use Rattle.std.proofs.Common.{◌≡◌, ◌∙◌, ap, Some, take, length, arith, rules}
+use Rattle.std.proofs.Common.{◌∙◌, ap, length, arith}
 use Rattle.doors.proofs.TakingLemmas.{reads_more, reads_end, reads_failed}
 use Rattle.doors.proofs.reading.read_to.Goals as goal
 
