@@ -1,0 +1,4 @@
+pub mod Door
+pub mod Stop
+pub mod Reading
+pub mod Memory
