@@ -1,3 +1,5 @@
+pub mod ReportLemmas
+pub mod WordLemmas
 pub mod NameLemmas
 pub mod FolderLemmas
 pub mod StopLemmas

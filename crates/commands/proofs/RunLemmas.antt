@@ -9,8 +9,8 @@ use Rattle.commands.specs.declared.command.Command.{Command}
 use Rattle.commands.specs.Asked.{asked}
 use Rattle.commands.specs.Commands.{Asked}
 use Rattle.commands.specs.Refusals.{line_of}
-use Rattle.commands.specs.Running.{Ending, EndsWith, Finishes, HasAnswered, HasNoMemory, HasPart, HasUsage, IsBehind, IsEnding, IsPartBehind, IsRefusedCommand, IsWritten, Performs, ending_of, read_fault_line, status_of, usage_line}
-use Rattle.commands.specs.Stops.{Comes, HasCause}
+use Rattle.commands.specs.Running.{Ending, EndsWith, Finishes, HasAnswered, HasNoMemory, HasPart, HasUsage, IsBehind, IsEnding, IsPartBehind, IsRefusedCommand, IsWritten, Performs, PerformsCounted, ending_of, read_fault_line, status_of, usage_line}
+use Rattle.commands.specs.Stops.{Comes, Counts, CountsOf, HasCause, Unticked}
 
 -- the ending of a command that came to an answer
 answer_of : (ending : Ending) (answer : Answer) (status : ℕ) → Comes ending.Is ending.steps (Ok answer) → status ≡ status_of answer.good → IsEnding ending answer.text status
@@ -24,27 +24,42 @@ refusal_of ending refusal status came is = subst (λ v. EndsWith ending.Is v (li
 pub performed : (content : Content) (command read : Command) (done : Result Answer Stop) → command ≡ read → Performs content (asked read) done → Performs content (asked command) done
 performed content command read done is performs = subst (λ (c : Command). Performs content (asked c) done) (sym is) performs
 
+-- and its ticks
+pub counted : (content : Content) (command read : Command) (ticks ticks_now : ℕ) (done : Result Answer Stop) → command ≡ read → PerformsCounted content (asked read) ticks ticks_now done → PerformsCounted content (asked command) ticks ticks_now done
+counted content command read ticks ticks_now done is counts = subst (λ (c : Command). PerformsCounted content (asked c) ticks ticks_now done) (sym is) counts
+
+-- where nothing is solved, no tick is made
+none_counted : {A : Type 0} (value : Result A Refusal) (ticks : ℕ) → CountsOf (λ (input : A). 0) value ticks ticks
+none_counted (Ok input) ticks = omega arith
+none_counted (Err refusal) ticks = λ i. ticks
+
+pub none_ticked : {A : Type 0} (value : Result A Refusal) (ticks : ℕ) (done : Result Answer Stop) → Counts (λ (input : A). 0) value ticks ticks done
+none_ticked value ticks (Ok answer) = none_counted value ticks
+none_ticked value ticks (Err (Refused refusal)) = none_counted value ticks
+none_ticked value ticks (Err ReadFault) = tt
+none_ticked value ticks (Err NoMemory) = tt
+
 -- a text with its status, where the sink did not fail
 whole : (wanted : ℕ) (text before : List ℕ) (faults faults_now : ℕ) (given given_now : Option (List ℕ)) (status : ℕ) → (status ≡ 5 → ⊥) → given ≡ Some before → IsWritten wanted text faults faults_now given given_now status → (status ≡ wanted) × (given_now ≡ Some (before ++ text))
 whole wanted text before faults faults_now given given_now status calm e (inl w) = (w.ends, w.told before e)
 whole wanted text before faults faults_now given given_now status calm e (inr w) = absurd (calm w.ends)
 
-pub answered : (content : Content) (asked : Asked) (before : List ℕ) (performed : Result Answer Stop) (faults faults_now : ℕ) (given given_now : Option (List ℕ)) (status : ℕ) → Performs content asked performed → (status ≡ 4 → ⊥) → (status ≡ 5 → ⊥) → given ≡ Some before → Finishes performed faults faults_now given given_now status → HasAnswered content asked before given_now status ⊎ HasNoMemory before given_now status
-answered content asked before (Ok answer) faults faults_now given given_now status performs quiet calm e f =
+pub answered : (content : Content) (asked : Asked) (before : List ℕ) (performed : Result Answer Stop) (faults faults_now : ℕ) (given given_now : Option (List ℕ)) (ticks ticks_now status : ℕ) → Performs content asked performed → PerformsCounted content asked ticks ticks_now performed → (status ≡ 4 → ⊥) → (status ≡ 5 → ⊥) → given ≡ Some before → Finishes performed faults faults_now given given_now status → HasAnswered content asked before given_now ticks ticks_now status ⊎ HasNoMemory before given_now status
+answered content asked before (Ok answer) faults faults_now given given_now ticks ticks_now status performs counts quiet calm e f =
     let w = whole (status_of answer.good) answer.text before faults faults_now given given_now status calm e f in
-    inl (record { text = answer.text; answer = answer_of (ending_of content asked) answer status performs w.0; written = w.1 })
-answered content asked before (Err (Refused refusal)) faults faults_now given given_now status performs quiet calm e (inl f) =
+    inl (record { text = answer.text; answer = answer_of (ending_of content asked) answer status performs w.0; written = w.1; counted = counts })
+answered content asked before (Err (Refused refusal)) faults faults_now given given_now ticks ticks_now status performs counts quiet calm e (inl f) =
     let w = whole 2 (line_of refusal) before faults faults_now given given_now status calm e f in
-    inl (record { text = line_of refusal; answer = refusal_of (ending_of content asked) refusal status performs w.0; written = w.1 })
-answered content asked before (Err (Refused refusal)) faults faults_now given given_now status performs quiet calm e (inr f) = inr (record { status_is = f.ends; written = f.told ∙ e })
-answered content asked before (Err ReadFault) faults faults_now given given_now status performs quiet calm e (inl f) = absurd (quiet f.ends)
-answered content asked before (Err ReadFault) faults faults_now given given_now status performs quiet calm e (inr f) = absurd (calm f.ends)
-answered content asked before (Err NoMemory) faults faults_now given given_now status performs quiet calm e f = inr (record { status_is = f.ends; written = f.told ∙ e })
+    inl (record { text = line_of refusal; answer = refusal_of (ending_of content asked) refusal status performs w.0; written = w.1; counted = counts })
+answered content asked before (Err (Refused refusal)) faults faults_now given given_now ticks ticks_now status performs counts quiet calm e (inr f) = inr (record { status_is = f.ends; written = f.told ∙ e })
+answered content asked before (Err ReadFault) faults faults_now given given_now ticks ticks_now status performs counts quiet calm e (inl f) = absurd (quiet f.ends)
+answered content asked before (Err ReadFault) faults faults_now given given_now ticks ticks_now status performs counts quiet calm e (inr f) = absurd (calm f.ends)
+answered content asked before (Err NoMemory) faults faults_now given given_now ticks ticks_now status performs counts quiet calm e f = inr (record { status_is = f.ends; written = f.told ∙ e })
 
-pub used : (before : List ℕ) (wanted : ℕ) (text : List ℕ) (faults faults_now : ℕ) (given given_now : Option (List ℕ)) (status : ℕ) → wanted ≡ 3 → text ≡ usage_line → (status ≡ 5 → ⊥) → given ≡ Some before → IsWritten wanted text faults faults_now given given_now status → HasUsage before given_now status
-used before wanted text faults faults_now given given_now status three line calm e w =
+pub used : (before : List ℕ) (wanted : ℕ) (text : List ℕ) (faults faults_now : ℕ) (given given_now : Option (List ℕ)) (ticks status : ℕ) → wanted ≡ 3 → text ≡ usage_line → (status ≡ 5 → ⊥) → given ≡ Some before → IsWritten wanted text faults faults_now given given_now status → HasUsage before given_now ticks ticks status
+used before wanted text faults faults_now given given_now ticks status three line calm e w =
     let done = whole wanted text before faults faults_now given given_now status calm e w in
-    record { status_is = done.0 ∙ three; written = done.1 ∙ ap (λ t. Some (before ++ t)) line }
+    record { status_is = done.0 ∙ three; written = done.1 ∙ ap (λ t. Some (before ++ t)) line; still = λ i. ticks }
 
 pub behind_usage : (wanted : ℕ) (text : List ℕ) (faults faults_now : ℕ) (given given_now : Option (List ℕ)) (status : ℕ) → text ≡ usage_line → IsWritten wanted text faults faults_now given given_now status → status ≡ 3 → IsBehind usage_line given given_now
 behind_usage wanted text faults faults_now given given_now status line (inl w) three = λ before e. w.told before e ∙ ap (λ t. Some (before ++ t)) line
@@ -63,6 +78,14 @@ refused content asked (Err (Refused refusal)) faults faults_now given given_now 
 refused content asked (Err ReadFault) faults faults_now given given_now status came two (inl w) = absurd (let four = w.ends in omega arith)
 refused content asked (Err ReadFault) faults faults_now given given_now status came two (inr w) = absurd (let five = w.ends in omega arith)
 refused content asked (Err NoMemory) faults faults_now given given_now status came two f = absurd (let eight = f.ends in omega arith)
+
+-- with the status of a refusal, or of files that failed, no tick was made
+pub unsolved : (performed : Result Answer Stop) (faults faults_now : ℕ) (given given_now : Option (List ℕ)) (ticks ticks_now status : ℕ) → Unticked ticks ticks_now performed → Finishes performed faults faults_now given given_now status → 2 ≤ status → status ≤ 4 → ticks_now ≡ ticks
+unsolved (Ok answer) faults faults_now given given_now ticks ticks_now status still (inl w) least most = absurd (let one = small answer.good status w.ends in omega arith)
+unsolved (Ok answer) faults faults_now given given_now ticks ticks_now status still (inr w) least most = absurd (let five = w.ends in omega arith)
+unsolved (Err (Refused refusal)) faults faults_now given given_now ticks ticks_now status still f least most = still
+unsolved (Err ReadFault) faults faults_now given given_now ticks ticks_now status still f least most = still
+unsolved (Err NoMemory) faults faults_now given given_now ticks ticks_now status still f least most = absurd (let eight = f.ends in omega arith)
 
 -- a beginning of a text, where the status is 5 and not the one that was wanted
 cut : (wanted : ℕ) (text : List ℕ) (faults faults_now : ℕ) (given given_now : Option (List ℕ)) (status : ℕ) → wanted ≤ 4 → status ≡ 5 → IsWritten wanted text faults faults_now given given_now status → IsPartBehind text given given_now

@@ -1,5 +1,6 @@
 -- The line of a refusal.
 use Rattle.std.specs.Prelude.{ℕ, List as Seq, codes}
+use Rattle.std.specs.Fmt.{decimal}
 use Rattle.net_types.specs.declared.refusals.BundleSide.{BundleSide}
 use Rattle.net_types.specs.declared.refusals.BundleSide.TheVariants.{Base, New}
 use Rattle.net_types.specs.Then.{◌then◌}
@@ -32,5 +33,5 @@ refused_line what cause = codes "refused: " then what then codes ": " then cause
 unfoldable pub line_of : Refusal → Seq ℕ
 line_of (Cause.NoPath path) = codes "refused: no such path " then path then codes "\n"
 line_of (Cause.Bundle bundle files refusal) = refused_line (bundle_word bundle) (bundle_text files refusal)
-line_of (Cause.SpeaksBgp side host) = refused_line (side_word side) (codes "NoBgpYet " then host)
+line_of (Cause.CasesLimit side cases) = refused_line (side_word side) (codes "CasesLimit " then decimal cases)
 line_of (Cause.Form form refusal) = refused_line (form_word form) (form_text refusal)

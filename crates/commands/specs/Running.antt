@@ -8,11 +8,11 @@ use Rattle.commands.specs.declared.stable.Proposal.{Proposal}
 use Rattle.commands.specs.declared.stop.Stop.{Stop}
 use Rattle.commands.specs.declared.stop.Stop.TheVariants.{Refused, ReadFault, NoMemory}
 use Rattle.commands.specs.declared.refusals.Refusal.{Refusal}
-use Rattle.commands.specs.Commands.{Asked, Check, Stable}
-use Rattle.commands.specs.CheckEnding.{IsReport, check_inputs}
+use Rattle.commands.specs.Commands.{Asked, Check, Stable, Gen}
+use Rattle.commands.specs.CheckEnding.{IsReport, check_steps, gen_steps, solved_in}
 use Rattle.commands.specs.Refusals.{line_of}
 use Rattle.commands.specs.StableEnding.{IsStability, stable_inputs}
-use Rattle.commands.specs.Stops.{Comes}
+use Rattle.commands.specs.Stops.{Comes, Counts, CountsOf}
 
 -- the line of words that are no command
 unfoldable pub usage_line : Seq ℕ
@@ -37,17 +37,21 @@ pub record IsRefused (refusal : Refusal) (text : Seq ℕ) (status : ℕ) : Type 
   pub text_is : text ≡ line_of refusal
   pub status_is : status ≡ 2
 
--- how a command ends: what its steps come to, its input or the first refusal; and which text answers on an input, and
--- whether that is good
+-- how a command ends: what its steps come to, its input or the first refusal; which text answers on an input, and
+-- whether that is good; and how many ticks are made for it, one for each case that is solved
 pub record Ending : Type 1 where
   pub Input : Type 0
   pub steps : Result Input Refusal
   pub Is : Input → Seq ℕ → Bool → Type 0
+  pub count : Input → ℕ
 
--- the ending of each command over this content
+-- the ending of each command over this content; how many workers there are decides nothing
 abbrev pub ending_of : Content → Asked → Ending
-ending_of content (Check base new properties) = record { Input = Inputs; steps = check_inputs content base new properties; Is = IsReport }
-ending_of content (Stable bundle labels) = record { Input = Proposal; steps = stable_inputs content bundle labels; Is = IsStability }
+ending_of content (Check base new properties workers) =
+    record { Input = Inputs; steps = check_steps content base new properties; Is = IsReport; count = solved_in }
+ending_of content (Stable bundle labels) =
+    record { Input = Proposal; steps = stable_inputs content bundle labels; Is = IsStability; count = λ proposal. 0 }
+ending_of content (Gen columns workers) = record { Input = Inputs; steps = gen_steps columns; Is = IsReport; count = solved_in }
 
 -- the text and the status of a command by what its steps came to: its answer on its inputs, or the line of
 -- the refusal
@@ -62,11 +66,19 @@ IsEnding ending text status = EndsWith ending.Is ending.steps text status
 abbrev pub Performs : Content → Asked → Result Answer Stop → Type 0
 Performs content asked performed = Comes (ending_of content asked).Is (ending_of content asked).steps performed
 
--- the answer of a command over this content, written behind what the sink held before
-pub record HasAnswered (content : Content) (asked : Asked) (before : Seq ℕ) (after : Option (Seq ℕ)) (status : ℕ) : Type 0 where
+-- how many ticks it makes
+abbrev pub PerformsCounted : Content → Asked → ℕ → ℕ → Result Answer Stop → Type 0
+PerformsCounted content asked ticks ticks_now performed = Counts (ending_of content asked).count (ending_of content asked).steps ticks ticks_now performed
+
+abbrev pub IsCounted : Ending → ℕ → ℕ → Type 0
+IsCounted ending ticks ticks_now = CountsOf ending.count ending.steps ticks ticks_now
+
+-- the answer of a command over this content, written behind what the sink held before, with its ticks
+pub record HasAnswered (content : Content) (asked : Asked) (before : Seq ℕ) (after : Option (Seq ℕ)) (ticks ticks_now status : ℕ) : Type 0 where
   pub text : Seq ℕ
   pub answer : IsEnding (ending_of content asked) text status
   pub written : after ≡ Some (before ++ text)
+  pub counted : IsCounted (ending_of content asked) ticks ticks_now
 
 -- the status is that of want of memory, and nothing was written
 pub record HasNoMemory (before : Seq ℕ) (after : Option (Seq ℕ)) (status : ℕ) : Type 0 where
@@ -74,16 +86,18 @@ pub record HasNoMemory (before : Seq ℕ) (after : Option (Seq ℕ)) (status : �
   pub written : after ≡ Some before
 
 -- the words are no command
-pub record HasUsage (before : Seq ℕ) (after : Option (Seq ℕ)) (status : ℕ) : Type 0 where
+pub record HasUsage (before : Seq ℕ) (after : Option (Seq ℕ)) (ticks ticks_now status : ℕ) : Type 0 where
   pub status_is : status ≡ 3
   pub written : after ≡ Some (before ++ usage_line)
+  pub still : ticks_now ≡ ticks
 
 -- what a run comes to over this content where its status is not that of a failure: a command answers with its
--- defined text and status, or ends with the status of want of memory and wrote nothing; other words are answered by
--- the usage line
-abbrev pub Answers : Content → Option Asked → Seq ℕ → Option (Seq ℕ) → ℕ → Type 0
-Answers content None before after status = HasUsage before after status
-Answers content (Some asked) before after status = HasAnswered content asked before after status ⊎ HasNoMemory before after status
+-- defined text and status and makes its ticks, or ends with the status of want of memory and wrote nothing; other words
+-- are answered by the usage line
+abbrev pub Answers : Content → Option Asked → Seq ℕ → Option (Seq ℕ) → ℕ → ℕ → ℕ → Type 0
+Answers content None before after ticks ticks_now status = HasUsage before after ticks ticks_now status
+Answers content (Some asked) before after ticks ticks_now status =
+    HasAnswered content asked before after ticks ticks_now status ⊎ HasNoMemory before after status
 
 -- a text is behind what the sink held before
 abbrev pub IsBehind : Seq ℕ → Option (Seq ℕ) → Option (Seq ℕ) → Type 0

@@ -1,5 +1,5 @@
 -- What a step of a command answers: its value, or its refusal.
-use Rattle.std.specs.Prelude.{ℕ, ◌≡◌, ◌≤◌, Bool, List as Seq, Result, Ok, Err}
+use Rattle.std.specs.Prelude.{ℕ, ◌≡◌, ◌≤◌, ◌+◌, Bool, List as Seq, Result, Ok, Err}
 use Rattle.outside.specs.Faults.{Rose}
 use Rattle.commands.specs.declared.answer.Answer.{Answer}
 use Rattle.commands.specs.declared.refusals.Refusal.{Refusal}
@@ -40,3 +40,22 @@ Comes {A} Is value (Ok answer) = (inputs : A) × (value ≡ Ok inputs) × Is inp
 Comes Is value (Err (Refused refusal)) = value ≡ Err refusal
 Comes Is value (Err ReadFault) = Unit {0}
 Comes Is value (Err NoMemory) = Unit {0}
+
+-- the ticks before and after a command: as many as are counted of its inputs, none where a step refuses
+abbrev pub CountsOf : {A : Type 0} → (A → ℕ) → Result A Refusal → ℕ → ℕ → Type 0
+CountsOf count (Ok inputs) before now = now ≡ before + count inputs
+CountsOf count (Err refusal) before now = now ≡ before
+
+-- so by what the command comes to, unless there was no memory or the shelf failed
+abbrev pub Counts : {A : Type 0} → (A → ℕ) → Result A Refusal → ℕ → ℕ → Result Answer Stop → Type 0
+Counts count value before now (Ok answer) = CountsOf count value before now
+Counts count value before now (Err (Refused refusal)) = CountsOf count value before now
+Counts count value before now (Err ReadFault) = Unit {0}
+Counts count value before now (Err NoMemory) = Unit {0}
+
+-- a command that ends before its answer makes no tick, unless there was no memory
+abbrev pub Unticked : {A : Type 0} → ℕ → ℕ → Result A Stop → Type 0
+Unticked before now (Ok found) = Unit {0}
+Unticked before now (Err (Refused refusal)) = now ≡ before
+Unticked before now (Err ReadFault) = now ≡ before
+Unticked before now (Err NoMemory) = Unit {0}

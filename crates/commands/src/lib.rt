@@ -2,9 +2,9 @@
 //!
 //! Decides: what the words ask, in which order files are read and judged, the exit status, the bytes of what `stable`
 //! answers, and the line of each refusal, which is a value until it is written.
-//! Stands on: `outside` for files and output, `refusal_texts` for the words of refusals, `judging` for `check`,
-//! `bundle_reader`, `label_file`, `ospf_paths` and `concrete_algebra` for `stable`, and definitions and lemmas of
-//! `topology`.
+//! Stands on: `outside` for files, output, gates and the counter of solved cases, `refusal_texts` for the words of
+//! refusals, `judging` for `check` and `gen`, `ladder` for what `gen` makes, `bundle_reader`, `label_file`, `ospf_paths` and
+//! `concrete_algebra` for `stable`, and definitions and lemmas of `topology`.
 //! Promises: the clauses of `run`. Not: anything of real files but the causes of its statuses.
 #![tactic(auto)]
 
@@ -12,7 +12,9 @@ mod answer;
 mod check;
 mod command;
 mod folder;
+mod ladders;
 mod refusals;
+mod reports;
 mod runs;
 mod stable;
 mod status;

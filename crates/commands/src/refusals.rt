@@ -32,8 +32,8 @@ pub enum Refusal {
     NoPath(Text),
     /// These files of a bundle make no network.
     Bundle(Bundle, List<SourceFile>, BundleRefusal),
-    /// A router of this side, with this host, speaks BGP, which is not analysed yet.
-    SpeaksBgp(BundleSide, Text),
+    /// The book has this many cases on this side, which are more than are solved.
+    CasesLimit(BundleSide, u64),
     /// A TOML file is refused.
     Form(Form, FormRefusal),
 }
@@ -87,8 +87,8 @@ pub fn line_of(alloc: Global, refusal: &Refusal) -> Result<String, NoMemory>
             let cause = bundle_text(alloc, files.as_slice(), *refusal)?;
             refused_line(alloc, bundle_word(*bundle), cause.as_str())
         }
-        Refusal::SpeaksBgp(side, host) => {
-            let cause = format!(in alloc; "NoBgpYet {host}")?;
+        Refusal::CasesLimit(side, cases) => {
+            let cause = format!(in alloc; "CasesLimit {cases}")?;
             refused_line(alloc, side_word(*side), cause.as_str())
         }
         Refusal::Form(form, refusal) => {

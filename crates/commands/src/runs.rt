@@ -4,21 +4,24 @@ ghost use Rattle.std.specs.Prelude.{◌≡◌, ◌≤◌, ◌⊎◌, ℕ, List a
 ghost use Rattle.outside.specs.Content.{Content};
 ghost use Rattle.outside.specs.Faults.{Rose};
 ghost use Rattle.commands.specs.Asked.{asked};
-ghost use Rattle.commands.specs.Commands.{command_of};
+ghost use Rattle.commands.specs.Commands.{CanRun, command_of};
 ghost use Rattle.commands.specs.Refusals.{line_of};
-ghost use Rattle.commands.specs.Running.{Answers, Finishes, HasPart, IsBehind, IsRefusedCommand, IsSilent, IsStatus, IsWritten, Performs, read_fault_line, status_of, usage_line};
-ghost use Rattle.commands.specs.Stops.{HasCause};
+ghost use Rattle.commands.specs.Running.{Answers, Finishes, HasPart, IsBehind, IsRefusedCommand, IsSilent, IsStatus, IsWritten, Performs, PerformsCounted, read_fault_line, status_of, usage_line};
+ghost use Rattle.commands.specs.Stops.{HasCause, Unticked};
 
 use crate::answer::Answer;
 use crate::check::check;
 use crate::command::{Command, command_of};
+use crate::ladders::generated;
 use crate::refusals::{Refusal, line_of};
 use crate::stable::stable;
 use crate::status::Status;
 use crate::stop::Stop;
 use net_types::{NoMemory, Text};
-use outside::{Shelf, Sink, give_all};
+use outside::{Gate, Shelf, Sink, Steps, give_all};
 use std::alloc::Global;
+use std::sync::ledger::Ledger;
+use std::thread::Threads;
 
 /// What is printed where the words are no command.
 const USAGE: &str =
@@ -64,31 +67,56 @@ fn finish<O: Sink>(alloc: Global, out: &mut O, performed: Result<Answer, Stop>) 
 }
 
 // Does what a command asks.
-fn perform<F: Shelf>(alloc: Global, shelf: &mut F, command: Command<'_>) -> Result<Answer, Stop>
+fn perform<R: Threads + Sync, F: Shelf, G: Gate + Sync, L: Ledger>(
+    rt: &R,
+    alloc: Global,
+    shelf: &mut F,
+    command: Command<'_>,
+    gate: &G,
+    steps: &mut Steps<L>,
+) -> Result<Answer, Stop>
+    requires { CanRun (asked command) }
     ensures cause { HasCause (F.faults shelf.old) (F.faults shelf.new) result }
     ensures same { F.content shelf.new ≡ F.content shelf.old }
     ensures told { (c : Content) → F.content shelf.old ≡ Some c → Performs c (asked command.entry) result }
+    ensures counted { (c : Content) → F.content shelf.old ≡ Some c → PerformsCounted c (asked command.entry) steps.old steps.new result }
+    ensures still { Unticked steps.old steps.new result }
 {
     match command {
         Command::Check {
             base,
             new,
             properties,
-        } => check(alloc, shelf, base, new, properties),
+            workers,
+        } => check(
+            rt, alloc, shelf, base, new, properties, workers, gate, steps,
+        ),
         Command::Stable { bundle, labels } => stable(alloc, shelf, bundle, labels),
+        Command::Gen { columns, workers } => generated(rt, alloc, columns, workers, gate, steps),
     }
 }
 
-/// Does what the words ask, and answers with the exit status. Words are read by hand: they are a command
-/// exactly where they are `check` and three words, or `stable` and two, none of which is empty or begins with `-`.
+/// Does what the words ask, and answers with the exit status. Words are read by hand, by the table of
+/// `specs/Commands.antt`: `check` and three words, `stable` and two, `gen` and an odd number from 3 to 21; behind those of
+/// `check` and `gen` may stand how many workers solve each case, 1 to 8.
 ///
-/// What is written, and the status, is that of `specs/Running.antt`. The status is 4 only where a call of
-/// the shelf failed, and 5 only where one of the sink did; no call failed where the status is neither. At 5 a
-/// beginning of the text was written, at 8 nothing.
+/// What is written, and the status, is that of `specs/Running.antt`. A property that is printed as certified holds, in
+/// every stable solution. The ticks of `steps` are the two printed numbers of solved cases together, and none where
+/// nothing was solved. The status is 4 only where a call of the shelf failed, and 5 only where one of the sink did; no
+/// call failed where the status is neither. At 5 a beginning of the text was written, at 8 nothing.
 #[tactic(auto, unfolding(crate::specs::Running::usage_line))]
-pub fn run<F: Shelf, O: Sink>(alloc: Global, words: &[Text], shelf: &mut F, out: &mut O) -> Status
+pub fn run<F: Shelf, O: Sink, R: Threads + Sync, G: Gate + Sync, L: Ledger>(
+    rt: &R,
+    alloc: Global,
+    words: &[Text],
+    shelf: &mut F,
+    out: &mut O,
+    gate: &G,
+    steps: &mut Steps<L>,
+) -> Status
     ensures answer { (c : Content) (before : Seq ℕ) → F.content shelf.old ≡ Some c → O.given out.old ≡ Some before →
-        (result ≡ 4 → ⊥) → (result ≡ 5 → ⊥) → Answers c (command_of words.now) before (O.given out.new) result }
+        (result ≡ 4 → ⊥) → (result ≡ 5 → ⊥) → Answers c (command_of words.now) before (O.given out.new) steps.old steps.new result }
+    ensures unsolved { 2 ≤ result → result ≤ 4 → steps.new ≡ steps.old }
     ensures refused { (c : Content) → F.content shelf.old ≡ Some c → result ≡ 2 → IsRefusedCommand c (command_of words.now) }
     ensures usage { result ≡ 3 → command_of words.now ≡ None }
     ensures no_command { command_of words.now ≡ None → (result ≡ 3) ⊎ (result ≡ 5) }
@@ -106,7 +134,7 @@ pub fn run<F: Shelf, O: Sink>(alloc: Global, words: &[Text], shelf: &mut F, out:
 {
     match command_of(words) {
         Some(command) => {
-            let performed = perform(alloc, shelf, command);
+            let performed = perform(rt, alloc, shelf, command, gate, steps);
             finish(alloc, out, performed)
         }
         None => write(out, USAGE.as_bytes(), Status::new(3)),

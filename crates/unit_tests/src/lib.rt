@@ -1,5 +1,5 @@
 //! Tests beside the tables of `worked_runs`: texts, sets and files in memory and of the machine, walks through sets of
-//! failed links, pairs of routes, rows, want of memory, limits, and texts that no run gives yet.
+//! failed links, pairs of routes, rows, want of memory, and limits.
 #![tactic(auto)]
 
 #[cfg(test)]
@@ -24,8 +24,6 @@ mod networks;
 mod orders;
 #[cfg(test)]
 mod refusals;
-#[cfg(test)]
-mod reports;
 #[cfg(test)]
 mod rows;
 #[cfg(test)]

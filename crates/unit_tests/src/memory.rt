@@ -1,11 +1,16 @@
 //! Want of memory: a run ends with status 8 and nothing written, or with its answer.
 
+ghost use Rattle.std.specs.Prelude.{◌≡◌, ◌<◌};
+
 use crate::asserting::holds;
 use crate::folders::{FIRST, PROPERTY, SECOND, THIRD};
 use commands::run;
 use net_types::{List, NoMemory, SourceFile, Text};
-use outside::{MemShelf, MemSink};
+use outside::{MemShelf, MemSink, OpenGate, Steps};
 use std::alloc::Global;
+use std::marker::Brand;
+use std::sync::ledger::{Blank, Ledger};
+use std::thread::Threads;
 
 // The line before and after a change, and a property of it.
 const FILES: [(&str, &str); 7] = [
@@ -40,19 +45,36 @@ fn words(alloc: Global) -> Result<Vec<Text>, NoMemory> {
     Ok(all)
 }
 
-// Whether a check of the files ends with its report and status 0, or with status 8 and nothing written. It asks for no
-// memory once the run is over, so that a run whose last allocation fails is seen too.
-fn reports_or_is_silent(alloc: Global, content: List<SourceFile>) -> Option<bool> {
+// Whether a check of the files ends with its report and status 0, or with status 8 and nothing written, with a counter of
+// the ledger that the blank names. It asks for no memory once the run is over, so that a run whose last allocation fails
+// is seen too.
+fn reports_or_is_silent<R: Threads + Sync, L: Ledger>(
+    rt: &R,
+    alloc: Global,
+    content: List<SourceFile>,
+    blank: Blank,
+) -> Option<bool>
+    requires name { blank.name ≡ L.name }
+    requires parts { blank.parts ≡ L.parts }
+    requires some { 0 < blank.parts }
+{
     let words = words(alloc).ok()?;
     if !MemShelf::are_distinct(&content) {
         return None;
     }
     let mut shelf = MemShelf::new(alloc, content, &[]).ok()?;
     let mut out = MemSink::new(alloc, 1_024, &[]).ok()?;
-    let status = run(alloc, words.as_slice(), &mut shelf, &mut out).code();
+    let mut steps: Steps<L> = Steps::open(blank);
+    let (words, gate) = (words.as_slice(), &OpenGate);
+    let status = run(rt, alloc, words, &mut shelf, &mut out, gate, &mut steps).code();
     let is_answer = status == 0 && out.bytes() == REPORT;
     let is_silent = status == 8 && out.bytes().is_empty();
     Some(is_answer || is_silent)
+}
+
+// The same with a counter of its own.
+fn counted<R: Threads + Sync>(rt: &R, alloc: Global, content: List<SourceFile>) -> Option<bool> {
+    reports_or_is_silent::<R, Brand>(rt, alloc, content, Blank::new(1))
 }
 
 // The line of three is to be run with each allocation failing in turn: `rt try --test --fail-alloc N`. Where the
@@ -61,7 +83,7 @@ fn reports_or_is_silent(alloc: Global, content: List<SourceFile>) -> Option<bool
 fn line_of_three_with_or_without_memory(rt: HostRuntime) {
     let alloc = rt.alloc();
     let run = match files(alloc) {
-        Ok(content) => reports_or_is_silent(alloc, content),
+        Ok(content) => counted(&rt, alloc, content),
         Err(_) => None,
     };
     holds(&rt, run != Some(false));

@@ -1,5 +1,7 @@
 //! What a case asks, and how it ends.
 
+ghost use Rattle.std.specs.Prelude.{◌≡◌, ◌<◌};
+
 use crate::cases::{Asked, Case};
 use crate::described::describe;
 use crate::ending::{Ending, ended_with, files_in};
@@ -9,9 +11,11 @@ use bundle_reader::read_bundle;
 use commands::run;
 use frr_reader::read_router;
 use net_types::{BundleRefusal, List, NoMemory, SourceFile, Text};
-use outside::{MemShelf, MemSink};
+use outside::{MemShelf, MemSink, OpenGate, Steps};
 use refusal_texts::bundle_text;
 use std::alloc::Global;
+use std::marker::Brand;
+use std::sync::ledger::{Blank, Ledger};
 use std::thread::Threads;
 
 fn refused(
@@ -61,8 +65,18 @@ fn network_ending(alloc: Global, case: &Case, folder: &str) -> Result<Ending, No
     }
 }
 
-// How a run of the program over the files of the case ends.
-fn run_ending(alloc: Global, case: &Case, words: &str) -> Result<Ending, NoMemory> {
+// How a run of the program over the files of the case ends, with a counter of the ledger that the blank names.
+fn counted_ending<R: Threads + Sync, L: Ledger>(
+    rt: &R,
+    alloc: Global,
+    case: &Case,
+    words: &str,
+    blank: Blank,
+) -> Result<Ending, NoMemory>
+    requires name { blank.name ≡ L.name }
+    requires parts { blank.parts ≡ L.parts }
+    requires some { 0 < blank.parts }
+{
     let content = List::from_vec(files_in(alloc, case.files.as_slice(), "")?);
     if !MemShelf::are_distinct(&content) {
         return ended_with(alloc, 2, "two files of one path\n");
@@ -70,11 +84,23 @@ fn run_ending(alloc: Global, case: &Case, words: &str) -> Result<Ending, NoMemor
     let mut shelf = MemShelf::new(alloc, content, case.failing.as_slice())?;
     let mut out = MemSink::new(alloc, case.room, case.failing_writes.as_slice())?;
     let words = words_of(alloc, words)?;
-    let status = run(alloc, words.as_slice(), &mut shelf, &mut out).code();
+    let mut steps: Steps<L> = Steps::open(blank);
+    let (words, gate) = (words.as_slice(), &OpenGate);
+    let status = run(rt, alloc, words, &mut shelf, &mut out, gate, &mut steps).code();
     Ok(Ending {
         status,
         text: Vec::from_slice(alloc, out.bytes())?,
     })
+}
+
+// How a run ends.
+fn run_ending<R: Threads + Sync>(
+    rt: &R,
+    alloc: Global,
+    case: &Case,
+    words: &str,
+) -> Result<Ending, NoMemory> {
+    counted_ending::<R, Brand>(rt, alloc, case, words, Blank::new(1))
 }
 
 // How a question ends; one that is not known is said to be none.
@@ -102,7 +128,7 @@ pub fn ending_of<R: Threads + Sync>(
 ) -> Result<Option<Ending>, NoMemory> {
     Ok(match &case.asked {
         Asked::Nothing => None,
-        Asked::Run(words) => Some(run_ending(alloc, case, words.as_str())?),
+        Asked::Run(words) => Some(run_ending(rt, alloc, case, words.as_str())?),
         Asked::Question(words) => Some(question_ending(rt, alloc, case, words.as_str())?),
     })
 }
