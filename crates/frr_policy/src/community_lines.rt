@@ -1,7 +1,8 @@
 //! The lines of community lists.
 
-ghost use Rattle.std.specs.Prelude.{◌≡◌, ◌^◌, ◌<◌, ◌≤◌, ◌∷◌, [], All, IfOk, IfSome, length, map};
+ghost use Rattle.std.specs.Prelude.{◌≡◌, ◌^◌, ◌<◌, ◌≤◌, ◌∷◌, [], List as Seq, All, IfOk, IfSome, length, map};
 ghost use Rattle.net_types.specs.ConfigFacts.{IsCommunityEntry};
+ghost use Rattle.net_types.specs.declared.config.CommunityList.{CommunityList as CommunityListValue};
 ghost use Rattle.net_types.specs.Communities.{community_of};
 ghost use Rattle.frr_policy.specs.Grammar.{Took, TookIfThere, first, leading};
 ghost use Rattle.frr_policy.specs.Answers.{Answers};
@@ -13,8 +14,17 @@ use crate::fronts::{Front, take_front, take_name};
 use crate::line_words::{Words, is_word};
 use crate::numbering::new_number;
 use crate::values::Name;
-use net_types::{CommunityEntry, CommunityList, List, Text, read_community};
+use net_types::{CommunityEntry, List, Text, read_community};
 use std::alloc::{AllocError, Global};
+
+/// Community lists, found by name.
+pub trait CommunityLists {
+    ghost lists: { Self → Seq CommunityListValue };
+
+    /// The entries of the list of this name; none where there is no such list.
+    fn entries_of(&self, name: &Text) -> &[CommunityEntry]
+        ensures { result.now ≡ community_entries name.now (lists self.now) };
+}
 
 // COMM, from the front of the words, if it stands there.
 fn take_community(words: &mut Words<'_>) -> Option<u32>
@@ -94,33 +104,21 @@ fn read_line<'a>(
     }
 }
 
-// The entries of the list of this name; none where there is no such list.
-fn entries_of<'a>(lists: &'a [CommunityList], name: &[u8]) -> &'a [CommunityEntry]
-    ensures { result.now ≡ community_entries name.now lists.now }
-{
-    for list in lists {
-        if is_word(list.name.as_bytes(), name) {
-            return list.entries.as_slice();
-        }
-    }
-    &[]
-}
-
 // The entry of a line, and the name of its list.
 #[tactic(auto, unfolding(crate::specs::CommunityLines::added_community_entry))]
-fn add_entry(
+fn add_entry<L: CommunityLists>(
     alloc: Global,
     line: (Front<'_>, List<u32>),
-    so_far: &[CommunityList],
+    so_far: &L,
 ) -> Result<(Text, CommunityEntry), LineRefusal>
     requires { All (λ c. c < 2 ^ 32) line.1 }
-    ensures entry { Answers (added_community_entry so_far.now line.entry) result }
+    ensures entry { Answers (added_community_entry (L.lists so_far.now) line.entry) result }
     ensures kept { IfOk result (λ r. IsCommunityEntry r.1) }
-    ensures room { IfOk result (λ r. HasRoom (community_numbers r.0 so_far.now) r.1.seq) }
+    ensures room { IfOk result (λ r. HasRoom (community_numbers r.0 (L.lists so_far.now)) r.1.seq) }
 {
     let (front, values) = line;
-    let seq = new_number(front.seq, entries_of(so_far, front.name.as_bytes()))?;
     let name = front.name.to_text(alloc)?;
+    let seq = new_number(front.seq, so_far.entries_of(&name))?;
     let permit = front.permit;
     Ok((
         name,
@@ -135,14 +133,14 @@ fn add_entry(
 /// The entry that a line of a community list makes, and the name of its list. The words are those behind
 /// `bgp community-list` or `ip community-list`; the lists so far are those of the lines before.
 #[tactic(auto, unfolding(crate::specs::CommunityLines::community_list_row))]
-pub fn read_community_list_line(
+pub fn read_community_list_line<L: CommunityLists>(
     alloc: Global,
     words: Words<'_>,
-    so_far: &[CommunityList],
+    so_far: &L,
 ) -> Result<(Text, CommunityEntry), LineRefusal>
-    ensures entry { Answers (community_list_row words.entry so_far.now) result }
+    ensures entry { Answers (community_list_row words.entry (L.lists so_far.now)) result }
     ensures kept { IfOk result (λ r. IsCommunityEntry r.1) }
-    ensures room { IfOk result (λ r. HasRoom (community_numbers r.0 so_far.now) r.1.seq) }
+    ensures room { IfOk result (λ r. HasRoom (community_numbers r.0 (L.lists so_far.now)) r.1.seq) }
 {
     match read_line(alloc, words)? {
         Some(line) => add_entry(alloc, line, so_far),

@@ -23,12 +23,12 @@ mod prefix_lines;
 mod refusals;
 mod values;
 
-pub use community_lines::read_community_list_line;
+pub use community_lines::{CommunityLists, read_community_list_line};
 pub use laws::{law_of_numbering, law_of_refusals};
 // `words` beside `Words` would be one name twice in a module of their own.
 pub use line_words::{Words, words_of as words};
-pub use map_lines::read_map_line;
+pub use map_lines::{RouteMaps, read_map_line};
 pub use map_steps::MapStep;
 pub use numbering::Numbered;
-pub use prefix_lines::read_prefix_list_line;
+pub use prefix_lines::{PrefixLists, read_prefix_list_line};
 pub use refusals::LineRefusal;

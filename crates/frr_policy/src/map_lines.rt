@@ -1,7 +1,8 @@
 //! The lines of route maps.
 
-ghost use Rattle.std.specs.Prelude.{◌≡◌, IfOk, IfSome, None};
+ghost use Rattle.std.specs.Prelude.{◌≡◌, List as Seq, IfOk, IfSome, None};
 ghost use Rattle.std.specs.Option.{option_copied};
+ghost use Rattle.net_types.specs.declared.config.RouteMap.{RouteMap as RouteMapValue};
 ghost use Rattle.frr_policy.specs.Values.{action_of, map_number_of};
 ghost use Rattle.frr_policy.specs.Grammar.{Took, first};
 ghost use Rattle.frr_policy.specs.Answers.{Answers};
@@ -10,15 +11,24 @@ ghost use Rattle.frr_policy.specs.MapLines.{FitsStep, HasPlace, heading_of, map_
 ghost use Rattle.frr_policy.specs.MapPlaces.{change_of, effect_of, found_row, by_found};
 
 use crate::fronts::{take_action, take_name};
-use crate::line_words::{Words, is_word};
+use crate::line_words::Words;
 use crate::map_places::take_row;
 use crate::map_steps::{MapRow, MapStep, Setting};
 use crate::numbering::if_free;
 use crate::values::{Name, map_number_of};
 use crate::{LineRefusal, map_rows};
-use net_types::{List, MapEntry, RouteMap, SetCommunity, Sets};
+use net_types::{List, MapEntry, SetCommunity, Sets, Text};
 use std::alloc::Global;
 use std::marker::Model;
+
+/// Route maps, found by name.
+pub trait RouteMaps {
+    ghost maps: { Self → Seq RouteMapValue };
+
+    /// The entries of the map of this name; none where there is no such map.
+    fn entries_of(&self, name: &Text) -> &[MapEntry]
+        ensures { result.now ≡ map_entries name.now (maps self.now) };
+}
 
 // What a line that begins an entry says.
 #[derive(Debug, Drop)]
@@ -58,18 +68,6 @@ fn read_heading<'a>(words: Words<'a>) -> Option<Heading<'a>>
     }
 }
 
-// The entries of the map of this name; none where there is no such map.
-fn entries_of<'a>(maps: &'a [RouteMap], name: &[u8]) -> &'a [MapEntry]
-    ensures { result.now ≡ map_entries name.now maps.now }
-{
-    for map in maps {
-        if is_word(map.name.as_bytes(), name) {
-            return map.entries.as_slice();
-        }
-    }
-    &[]
-}
-
 // An entry that matches every route and changes nothing.
 fn new_entry(alloc: Global, permit: bool, seq: u16) -> MapEntry
     ensures value { result ≡ new_entry permit seq }
@@ -94,31 +92,30 @@ fn new_entry(alloc: Global, permit: bool, seq: u16) -> MapEntry
 
 // Begins an entry of the map that the line names.
 #[tactic(auto, unfolding(crate::specs::MapLines::added_map_entry))]
-fn add_entry(
+fn add_entry<M: RouteMaps>(
     alloc: Global,
     heading: Heading<'_>,
-    so_far: &[RouteMap],
+    so_far: &M,
 ) -> Result<MapStep, LineRefusal>
-    ensures step { Answers (added_map_entry so_far.now heading.entry) result }
+    ensures step { Answers (added_map_entry (M.maps so_far.now) heading.entry) result }
     ensures kept { IfOk result FitsStep }
-    ensures place { IfOk result (HasPlace so_far.now None) }
+    ensures place { IfOk result (HasPlace (M.maps so_far.now) None) }
 {
-    let entries = entries_of(so_far, heading.name.as_bytes());
-    if_free(entries, u32::from(heading.seq))?;
     let name = heading.name.to_text(alloc)?;
+    if_free(so_far.entries_of(&name), u32::from(heading.seq))?;
     Ok(MapStep::Begin(name, new_entry(alloc, heading.permit, heading.seq)))
 }
 
 #[tactic(auto, unfolding(crate::specs::MapLines::begins))]
-fn begin(
+fn begin<M: RouteMaps>(
     alloc: Global,
     words: Words<'_>,
-    so_far: &[RouteMap],
+    so_far: &M,
     current: Option<&MapEntry>,
 ) -> Result<MapStep, LineRefusal>
-    ensures step { Answers (begins words.entry so_far.now (option_copied current.entry)) result }
+    ensures step { Answers (begins words.entry (M.maps so_far.now) (option_copied current.entry)) result }
     ensures kept { IfOk result FitsStep }
-    ensures place { IfOk result (HasPlace so_far.now (option_copied current.entry)) }
+    ensures place { IfOk result (HasPlace (M.maps so_far.now) (option_copied current.entry)) }
 {
     match read_heading(words) {
         Some(heading) => add_entry(alloc, heading, so_far),
@@ -151,16 +148,16 @@ fn change(
 }
 
 // What a line of this row does.
-fn take_step(
+fn take_step<M: RouteMaps>(
     alloc: Global,
     row: MapRow,
     words: Words<'_>,
-    so_far: &[RouteMap],
+    so_far: &M,
     current: Option<&MapEntry>,
 ) -> Result<MapStep, LineRefusal>
-    ensures step { Answers (effect_of row words.entry so_far.now (option_copied current.entry)) result }
+    ensures step { Answers (effect_of row words.entry (M.maps so_far.now) (option_copied current.entry)) result }
     ensures kept { IfSome (option_copied current.entry) FitsEntry → IfOk result FitsStep }
-    ensures place { IfOk result (HasPlace so_far.now (option_copied current.entry)) }
+    ensures place { IfOk result (HasPlace (M.maps so_far.now) (option_copied current.entry)) }
 {
     match (row, current) {
         (MapRow::Begins, _) => begin(alloc, words, so_far, current),
@@ -175,15 +172,15 @@ fn take_step(
 /// What a line of a route map does. The words are the whole line's; the maps so far are those of the lines
 /// before, and `current` is the entry whose block is open, if one is. A line that has the head of no row of
 /// a route map is not supported, whatever else the line table has.
-pub fn read_map_line(
+pub fn read_map_line<M: RouteMaps>(
     alloc: Global,
     words: Words<'_>,
-    so_far: &[RouteMap],
+    so_far: &M,
     current: Option<&MapEntry>,
 ) -> Result<MapStep, LineRefusal>
-    ensures step { Answers (map_line words.entry so_far.now (option_copied current.entry)) result }
+    ensures step { Answers (map_line words.entry (M.maps so_far.now) (option_copied current.entry)) result }
     ensures kept { IfSome (option_copied current.entry) FitsEntry → IfOk result FitsStep }
-    ensures place { IfOk result (HasPlace so_far.now (option_copied current.entry)) }
+    ensures place { IfOk result (HasPlace (M.maps so_far.now) (option_copied current.entry)) }
 {
     let mut words = words;
     match take_row(&mut words) {

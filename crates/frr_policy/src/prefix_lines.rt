@@ -1,7 +1,8 @@
 //! The lines of prefix lists.
 
-ghost use Rattle.std.specs.Prelude.{◌≡◌, ◌≤◌, ◌∷◌, [], IfSome, IfOk, MatchOption, map};
+ghost use Rattle.std.specs.Prelude.{◌≡◌, ◌≤◌, ◌∷◌, [], List as Seq, IfSome, IfOk, MatchOption, map};
 ghost use Rattle.net_types.specs.NetFacts.{IsPrefixEntry};
+ghost use Rattle.net_types.specs.declared.config.PrefixList.{PrefixList as PrefixListValue};
 ghost use Rattle.frr_policy.specs.Answers.{Answers};
 ghost use Rattle.frr_policy.specs.Grammar.{if_alone};
 ghost use Rattle.frr_policy.specs.Lists.{HasRoom};
@@ -12,8 +13,17 @@ use crate::fronts::{Front, take_front, take_name};
 use crate::line_words::{Words, is_word};
 use crate::numbering::new_number;
 use crate::values::{length_of, masked_prefix_of};
-use net_types::{Prefix, PrefixEntry, PrefixList, Text};
+use net_types::{Prefix, PrefixEntry, Text};
 use std::alloc::Global;
+
+/// Prefix lists, found by name.
+pub trait PrefixLists {
+    ghost lists: { Self → Seq PrefixListValue };
+
+    /// The entries of the list of this name; none where there is no such list.
+    fn entries_of(&self, name: &Text) -> &[PrefixEntry]
+        ensures { result.now ≡ prefix_entries name.now (lists self.now) };
+}
 
 /// A bound on the lengths of the prefixes that an entry matches, counted in.
 #[derive(Clone, Copy, Debug)]
@@ -161,33 +171,21 @@ fn read_line<'a>(words: Words<'a>) -> Option<(Front<'a>, Matched)>
     Some((front, matched))
 }
 
-// The entries of the list of this name; none where there is no such list.
-fn entries_of<'a>(lists: &'a [PrefixList], name: &[u8]) -> &'a [PrefixEntry]
-    ensures { result.now ≡ prefix_entries name.now lists.now }
-{
-    for list in lists {
-        if is_word(list.name.as_bytes(), name) {
-            return list.entries.as_slice();
-        }
-    }
-    &[]
-}
-
 // The entry of a line, and the name of its list.
 #[tactic(auto, unfolding(crate::specs::PrefixLines::added_prefix_entry))]
-fn add_entry(
+fn add_entry<L: PrefixLists>(
     alloc: Global,
     line: (Front<'_>, Matched),
-    so_far: &[PrefixList],
+    so_far: &L,
 ) -> Result<(Text, PrefixEntry), LineRefusal>
     requires { FitsPrefix line.1 }
-    ensures entry { Answers (added_prefix_entry so_far.now line.entry) result }
+    ensures entry { Answers (added_prefix_entry (L.lists so_far.now) line.entry) result }
     ensures kept { IfOk result (λ r. IsPrefixEntry r.1) }
-    ensures room { IfOk result (λ r. HasRoom (prefix_numbers r.0 so_far.now) r.1.seq) }
+    ensures room { IfOk result (λ r. HasRoom (prefix_numbers r.0 (L.lists so_far.now)) r.1.seq) }
 {
     let (front, matched) = line;
-    let seq = new_number(front.seq, entries_of(so_far, front.name.as_bytes()))?;
     let name = front.name.to_text(alloc)?;
+    let seq = new_number(front.seq, so_far.entries_of(&name))?;
     let entry = PrefixEntry {
         seq,
         permit: front.permit,
@@ -201,14 +199,14 @@ fn add_entry(
 /// The entry that a line of a prefix list makes, and the name of its list. The words are those behind
 /// `ip prefix-list`; the lists so far are those of the lines before.
 #[tactic(auto, unfolding(crate::specs::PrefixLines::prefix_list_row))]
-pub fn read_prefix_list_line(
+pub fn read_prefix_list_line<L: PrefixLists>(
     alloc: Global,
     words: Words<'_>,
-    so_far: &[PrefixList],
+    so_far: &L,
 ) -> Result<(Text, PrefixEntry), LineRefusal>
-    ensures entry { Answers (prefix_list_row words.entry so_far.now) result }
+    ensures entry { Answers (prefix_list_row words.entry (L.lists so_far.now)) result }
     ensures kept { IfOk result (λ r. IsPrefixEntry r.1) }
-    ensures room { IfOk result (λ r. HasRoom (prefix_numbers r.0 so_far.now) r.1.seq) }
+    ensures room { IfOk result (λ r. HasRoom (prefix_numbers r.0 (L.lists so_far.now)) r.1.seq) }
 {
     match read_line(words) {
         Some(line) => add_entry(alloc, line, so_far),

@@ -48,12 +48,6 @@ impl<'a> Name<'a> {
         }
     }
 
-    pub(crate) fn as_bytes(&self) -> &'a [u8]
-        ensures { result.now ≡ self.now }
-    {
-        self.bytes
-    }
-
     /// The name as a text of its own.
     pub(crate) fn to_text(&self, alloc: Global) -> Result<Text, AllocError>
         ensures { IfOk result (λ text. text ≡ self.now) }

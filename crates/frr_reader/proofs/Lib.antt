@@ -14,3 +14,4 @@ pub mod RangeLemmas
 pub mod RowCauseLemmas
 pub mod StateLemmas
 pub mod ValueLemmas
+pub mod PlaceLemmas

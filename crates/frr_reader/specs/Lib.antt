@@ -11,3 +11,5 @@ pub mod Reading
 pub mod FirstRefusal
 pub mod LineLaws
 pub mod StateLaws
+pub mod Places
+pub mod HasNames

@@ -5,13 +5,14 @@ ghost use Rattle.std.specs.List.{list_any};
 ghost use Rattle.net_types.specs.Prefixes.{same_prefix};
 ghost use Rattle.frr_reader.specs.Answers.{Takes};
 ghost use Rattle.frr_reader.specs.Values.{as_of, one};
-ghost use Rattle.frr_reader.specs.Bgp.{fresh_bgp, second, address_in, place_of_neighbor, named_neighbor, no_policy_line, other_as, fresh_neighbor, remote_as_line, direction_of, map_and_direction, map_in, with_map, neighbor_map_line, bgp_network_line, redistribution, is_redistributed, connected_line, from_ospf_line, of_neighbor_line, bgp_effect, map_behind, named_map};
+ghost use Rattle.frr_reader.specs.Bgp.{fresh_bgp, second, address_in, place_of_neighbor, named_neighbor, no_policy_line, other_as, fresh_neighbor, remote_as_line, direction_of, map_and_direction, map_in, neighbor_map_line, bgp_network_line, redistribution, is_redistributed, connected_line, from_ospf_line, of_neighbor_line, bgp_effect, map_behind, named_map};
 
+use crate::by_key::{Neighbors, Prefixes};
 use crate::causes::{BAD_VALUE, LineRefusal, OUT_OF_PLACE, REPEATED};
 use crate::rows::{BgpRow, Direction};
 use crate::values;
 use frr_policy::Words;
-use net_types::{BgpConfig, List, Neighbor, Prefix, Redistribute, Text, read_address};
+use net_types::{BgpConfig, Neighbor, Prefix, Redistribute, read_address};
 use std::alloc::{AllocError, Global};
 use std::marker::Model;
 
@@ -20,10 +21,10 @@ use std::marker::Model;
 pub struct Bgp {
     asn: u32,
     needs_policy: bool,
-    networks: Vec<Prefix>,
+    networks: Prefixes,
     connected: Redistribute,
     ospf: Redistribute,
-    neighbors: Vec<Neighbor>,
+    neighbors: Neighbors,
 }
 
 impl Model for Bgp {
@@ -31,7 +32,7 @@ impl Model for Bgp {
 
     ghost Value = { BgpConfig };
 
-    ghost view = { λ b. record { asn = b.asn; needs_policy = b.needs_policy; networks = b.networks.items; connected = b.connected; ospf = b.ospf; neighbors = b.neighbors.items } };
+    ghost view = { λ b. record { asn = b.asn; needs_policy = b.needs_policy; networks = b.networks; connected = b.connected; ospf = b.ospf; neighbors = b.neighbors } };
 }
 
 impl Bgp {
@@ -42,10 +43,10 @@ impl Bgp {
         Bgp {
             asn,
             needs_policy: true,
-            networks: Vec::new(alloc),
+            networks: Prefixes::new(alloc),
             connected: Redistribute::No,
             ospf: Redistribute::No,
-            neighbors: Vec::new(alloc),
+            neighbors: Neighbors::new(alloc),
         }
     }
 
@@ -63,10 +64,10 @@ impl Bgp {
         BgpConfig {
             asn: self.asn,
             needs_policy: self.needs_policy,
-            networks: List::from_vec(self.networks),
+            networks: self.networks.into_list(),
             connected: self.connected,
             ospf: self.ospf,
-            neighbors: List::from_vec(self.neighbors),
+            neighbors: self.neighbors.into_list(),
         }
     }
 
@@ -107,9 +108,7 @@ impl Bgp {
     fn place_of(&self, address: u32) -> Option<usize>
         ensures { result ≡ place_of_neighbor address self.now.neighbors }
     {
-        self.neighbors
-            .iter()
-            .position(|neighbor| neighbor.address == address)
+        self.neighbors.place_of(address)
     }
 
     // The place of the neighbor that the line names.
@@ -159,14 +158,14 @@ impl Bgp {
         let Some((name, direction)) = map_and_direction(rest) else {
             return Err(BAD_VALUE);
         };
-        if place >= self.neighbors.len() {
+        let Some(neighbor) = self.neighbors.as_slice().get(place) else {
             return Err(OUT_OF_PLACE);
-        }
-        if has_map(direction, &self.neighbors[place]) {
+        };
+        if has_map(direction, neighbor) {
             return Err(REPEATED);
         }
         let name = values::ascii_text(alloc, name)?;
-        set_map(direction, name, &mut self.neighbors[place]);
+        self.neighbors.set_map(place, direction, name);
         Ok(())
     }
 
@@ -174,7 +173,7 @@ impl Bgp {
     fn has_network(&self, prefix: &Prefix) -> bool
         ensures { result ≡ list_any (λ p. same_prefix p prefix.now) self.now.networks }
     {
-        self.networks.iter().any(|p| p.is_same(prefix))
+        self.networks.has(prefix)
     }
 
     #[tactic(auto, unfolding(crate::specs::Bgp::bgp_network_line))]
@@ -287,15 +286,6 @@ fn has_map(direction: Direction, neighbor: &Neighbor) -> bool
     match direction {
         Direction::Import => neighbor.import.is_some(),
         Direction::Export => neighbor.export.is_some(),
-    }
-}
-
-fn set_map(direction: Direction, name: Text, neighbor: &mut Neighbor)
-    ensures { neighbor.new ≡ with_map direction name neighbor.old }
-{
-    match direction {
-        Direction::Import => neighbor.import = Some(name),
-        Direction::Export => neighbor.export = Some(name),
     }
 }
 

@@ -1,73 +1,21 @@
 //! Entries of prefix lists, community lists and route maps, put at their places.
 
-ghost use Rattle.std.specs.Prelude.{◌≡◌, ◌≤◌, ◌∷◌, [], List as Seq, ℕ, IfOk, OnOk, length, nat_lt, slice_set};
-ghost use Rattle.std.specs.Option.{option_copied};
-ghost use Rattle.std.specs.List.{position_or_len};
-ghost use Rattle.net_types.specs.Order.{same_text};
+ghost use Rattle.std.specs.Prelude.{◌≡◌, ◌≤◌, ◌∷◌, [], List as Seq, ℕ, IfOk, OnOk, length, nat_lt, slice_get, slice_set};
+ghost use Rattle.std.specs.Option.{option_copied, option_map_or};
+ghost use Rattle.net_types.specs.declared.config.PrefixList.{PrefixList as PrefixListValue};
+ghost use Rattle.net_types.specs.declared.config.CommunityList.{CommunityList as CommunityListValue};
 ghost use Rattle.net_types.specs.declared.config.PrefixEntry.{PrefixEntry as PrefixEntryValue};
 ghost use Rattle.net_types.specs.declared.config.CommunityEntry.{CommunityEntry as CommunityEntryValue};
 ghost use Rattle.net_types.specs.declared.config.MapEntry.{MapEntry as MapEntryValue};
 ghost use Rattle.frr_reader.specs.Entries.{place_for, put, with_prefix_entry, with_community_entry, with_map_entry, entries_at, entry_at, with_entry_at};
 
-use crate::values::is_same;
-use frr_policy::Numbered;
+use crate::by_name::ByName;
+use frr_policy::{CommunityLists, Numbered, PrefixLists, RouteMaps};
 use net_types::{
-    CommunityEntry, CommunityList, Interface, List, MapEntry, PrefixEntry, PrefixList, RouteMap,
-    Text,
+    CommunityEntry, CommunityList, List, MapEntry, PrefixEntry, PrefixList, RouteMap, Text,
 };
 use std::alloc::{AllocError, Global};
 use std::mem;
-
-/// What has a name.
-pub trait Named {
-    ghost name_of: { Self → Seq ℕ };
-
-    /// The bytes of the name.
-    fn name(&self) -> &[u8]
-        ensures { result.now ≡ name_of self.now };
-}
-
-impl Named for Interface {
-    ghost name_of = { λ i. i.name };
-
-    fn name(&self) -> &[u8] {
-        self.name.as_bytes()
-    }
-}
-
-impl Named for PrefixList {
-    ghost name_of = { λ l. l.name };
-
-    fn name(&self) -> &[u8] {
-        self.name.as_bytes()
-    }
-}
-
-impl Named for CommunityList {
-    ghost name_of = { λ l. l.name };
-
-    fn name(&self) -> &[u8] {
-        self.name.as_bytes()
-    }
-}
-
-impl Named for RouteMap {
-    ghost name_of = { λ m. m.name };
-
-    fn name(&self) -> &[u8] {
-        self.name.as_bytes()
-    }
-}
-
-/// The place of the item of this name, or how many there are.
-pub fn place_of<T: Named>(items: &[T], name: &[u8]) -> usize
-    ensures { result ≡ position_or_len (λ x. same_text (T.name_of x) name.now) items.now }
-{
-    items
-        .iter()
-        .take_while(|item| !is_same(item.name(), name))
-        .count()
-}
 
 fn is_behind<E: Numbered>(entry: &E, number: u32) -> bool
     ensures { result ≡ nat_lt number (E.seq_of entry.now) }
@@ -110,7 +58,8 @@ fn put_in_prefix_list(
     list: &mut PrefixList,
     entry: PrefixEntry,
 ) -> Result<(), AllocError>
-    ensures { OnOk result (list.new ≡ record list.old { entries = put (λ (e : PrefixEntryValue). e.seq) entry list.old.entries }) }
+    ensures value { OnOk result (list.new ≡ record list.old { entries = put (λ (e : PrefixEntryValue). e.seq) entry list.old.entries }) }
+    ensures name { list.new.name ≡ list.old.name }
 {
     let entries = mem::replace(&mut list.entries, List::new(alloc));
     list.entries = put(entries, entry)?;
@@ -120,19 +69,19 @@ fn put_in_prefix_list(
 /// Adds an entry to the prefix list of this name.
 pub fn add_prefix_entry(
     alloc: Global,
-    lists: &mut Vec<PrefixList>,
+    lists: &mut ByName<PrefixList>,
     name: Text,
     entry: PrefixEntry,
 ) -> Result<(), AllocError>
-    ensures { OnOk result (lists.new.items ≡ with_prefix_entry name entry lists.old.items) }
+    ensures { OnOk result (lists.new ≡ with_prefix_entry name entry lists.old) }
 {
-    let place = place_of(lists.as_slice(), name.as_bytes());
+    let place = lists.place_of(name.as_str());
     if place >= lists.len() {
         let entries = list_of(alloc, entry)?;
-        lists.push(PrefixList { name, entries })?;
+        lists.push(alloc, PrefixList { name, entries })?;
         return Ok(());
     }
-    put_in_prefix_list(alloc, &mut lists[place], entry)
+    put_in_prefix_list(alloc, &mut lists.items[place], entry)
 }
 
 // Puts an entry at its place in the community list.
@@ -141,7 +90,8 @@ fn put_in_community_list(
     list: &mut CommunityList,
     entry: CommunityEntry,
 ) -> Result<(), AllocError>
-    ensures { OnOk result (list.new ≡ record list.old { entries = put (λ (e : CommunityEntryValue). e.seq) entry list.old.entries }) }
+    ensures value { OnOk result (list.new ≡ record list.old { entries = put (λ (e : CommunityEntryValue). e.seq) entry list.old.entries }) }
+    ensures name { list.new.name ≡ list.old.name }
 {
     let entries = mem::replace(&mut list.entries, List::new(alloc));
     list.entries = put(entries, entry)?;
@@ -151,24 +101,25 @@ fn put_in_community_list(
 /// Adds an entry to the community list of this name.
 pub fn add_community_entry(
     alloc: Global,
-    lists: &mut Vec<CommunityList>,
+    lists: &mut ByName<CommunityList>,
     name: Text,
     entry: CommunityEntry,
 ) -> Result<(), AllocError>
-    ensures { OnOk result (lists.new.items ≡ with_community_entry name entry lists.old.items) }
+    ensures { OnOk result (lists.new ≡ with_community_entry name entry lists.old) }
 {
-    let place = place_of(lists.as_slice(), name.as_bytes());
+    let place = lists.place_of(name.as_str());
     if place >= lists.len() {
         let entries = list_of(alloc, entry)?;
-        lists.push(CommunityList { name, entries })?;
+        lists.push(alloc, CommunityList { name, entries })?;
         return Ok(());
     }
-    put_in_community_list(alloc, &mut lists[place], entry)
+    put_in_community_list(alloc, &mut lists.items[place], entry)
 }
 
 // Puts an entry at its place in the map.
 fn put_in_map(alloc: Global, map: &mut RouteMap, entry: MapEntry) -> Result<(), AllocError>
-    ensures { OnOk result (map.new ≡ record map.old { entries = put (λ (e : MapEntryValue). e.seq) entry map.old.entries }) }
+    ensures value { OnOk result (map.new ≡ record map.old { entries = put (λ (e : MapEntryValue). e.seq) entry map.old.entries }) }
+    ensures name { map.new.name ≡ map.old.name }
 {
     let entries = mem::replace(&mut map.entries, List::new(alloc));
     map.entries = put(entries, entry)?;
@@ -178,19 +129,66 @@ fn put_in_map(alloc: Global, map: &mut RouteMap, entry: MapEntry) -> Result<(), 
 /// Adds an entry to the route map of this name.
 pub fn add_map_entry(
     alloc: Global,
-    maps: &mut Vec<RouteMap>,
+    maps: &mut ByName<RouteMap>,
     name: Text,
     entry: MapEntry,
 ) -> Result<(), AllocError>
-    ensures { OnOk result (maps.new.items ≡ with_map_entry name entry maps.old.items) }
+    ensures { OnOk result (maps.new ≡ with_map_entry name entry maps.old) }
 {
-    let place = place_of(maps.as_slice(), name.as_bytes());
+    let place = maps.place_of(name.as_str());
     if place >= maps.len() {
         let entries = list_of(alloc, entry)?;
-        maps.push(RouteMap { name, entries })?;
+        maps.push(alloc, RouteMap { name, entries })?;
         return Ok(());
     }
-    put_in_map(alloc, &mut maps[place], entry)
+    put_in_map(alloc, &mut maps.items[place], entry)
+}
+
+impl PrefixLists for ByName<PrefixList> {
+    ghost lists = { λ all. all };
+
+    #[tactic(auto, using(crate::proofs::PlaceLemmas::entries_found))]
+    fn entries_of(&self, name: &Text) -> &[PrefixEntry] {
+        prefix_entries_at(self.as_slice(), self.place_of(name.as_str()))
+    }
+}
+
+impl CommunityLists for ByName<CommunityList> {
+    ghost lists = { λ all. all };
+
+    #[tactic(auto, using(crate::proofs::PlaceLemmas::entries_found))]
+    fn entries_of(&self, name: &Text) -> &[CommunityEntry] {
+        community_entries_at(self.as_slice(), self.place_of(name.as_str()))
+    }
+}
+
+impl RouteMaps for ByName<RouteMap> {
+    ghost maps = { λ all. all };
+
+    #[tactic(auto, using(crate::proofs::PlaceLemmas::entries_found))]
+    fn entries_of(&self, name: &Text) -> &[MapEntry] {
+        entries_at(self.as_slice(), self.place_of(name.as_str()))
+    }
+}
+
+// The entries of the prefix list at this place; none where there is no list.
+fn prefix_entries_at(lists: &[PrefixList], place: usize) -> &[PrefixEntry]
+    ensures { result.now ≡ option_map_or (λ (l : PrefixListValue). l.entries) (slice_get lists.now place) [] }
+{
+    match lists.get(place) {
+        Some(list) => list.entries.as_slice(),
+        None => &[],
+    }
+}
+
+// The entries of the community list at this place; none where there is no list.
+fn community_entries_at(lists: &[CommunityList], place: usize) -> &[CommunityEntry]
+    ensures { result.now ≡ option_map_or (λ (l : CommunityListValue). l.entries) (slice_get lists.now place) [] }
+{
+    match lists.get(place) {
+        Some(list) => list.entries.as_slice(),
+        None => &[],
+    }
 }
 
 /// The entries of the map at this place; none where there is no map.
@@ -229,11 +227,17 @@ fn set_in_map(alloc: Global, map: &mut RouteMap, place: usize, entry: MapEntry)
 }
 
 /// Puts this entry in place of the one at this place of the map at that place.
-pub fn set_entry(alloc: Global, maps: &mut Vec<RouteMap>, map: usize, place: usize, entry: MapEntry)
-    ensures { maps.new.items ≡ with_entry_at map place entry maps.old.items }
+pub fn set_entry(
+    alloc: Global,
+    maps: &mut ByName<RouteMap>,
+    map: usize,
+    place: usize,
+    entry: MapEntry,
+)
+    ensures { maps.new ≡ with_entry_at map place entry maps.old }
 {
     if map >= maps.len() {
         return;
     }
-    set_in_map(alloc, &mut maps[map], place, entry);
+    set_in_map(alloc, &mut maps.items[map], place, entry);
 }

@@ -10,6 +10,8 @@
 #![tactic(auto)]
 
 mod bgp;
+mod by_key;
+mod by_name;
 mod causes;
 mod entries;
 mod laws;

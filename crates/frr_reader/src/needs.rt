@@ -4,8 +4,10 @@ ghost use Rattle.std.specs.Prelude.{◌≡◌, ◌++◌, ◌∷◌, [], not, IfO
 ghost use Rattle.std.specs.List.{list_any};
 ghost use Rattle.net_types.specs.ConfigFacts.{has_prefix_list, has_community_list, has_map};
 ghost use Rattle.frr_reader.specs.declared.needs.Needed.TheVariants.{PrefixList as PrefixListNeed, CommunityList as CommunityListNeed, OwnAs as OwnAsNeed};
+ghost use Rattle.frr_reader.specs.HasNames.{HasNames};
 ghost use Rattle.frr_reader.specs.Needs.{new_name, new_asns, noted, noted_change, is_own, is_undefined, is_foreign, first_undefined, first_foreign};
 
+use crate::by_name::Places;
 use crate::values::is_same;
 use net_types::{List, MapEntry, RouterConfig, Text};
 use std::alloc::{AllocError, Global};
@@ -30,6 +32,17 @@ pub struct Need {
     pub line: u64,
     /// What it needs.
     pub what: Needed,
+}
+
+/// The names of the lists and maps of a configuration, and their places in it.
+#[derive(Debug, Drop)]
+pub struct Names {
+    /// Those of the prefix lists.
+    pub prefix_lists: Places,
+    /// Those of the community lists.
+    pub community_lists: Places,
+    /// Those of the maps.
+    pub maps: Places,
 }
 
 /// Puts a need of this line behind the others, if it has one.
@@ -115,35 +128,36 @@ pub fn note_change(
     note(needed, line, prepend)
 }
 
-fn has_map(config: &RouterConfig, name: &Text) -> bool
+fn has_map(config: &RouterConfig, names: &Names, name: &Text) -> bool
+    requires { HasNames config.now names.now }
     ensures { result ≡ has_map config.now name.now }
 {
-    let mut maps = config.maps.as_slice().iter();
-    maps.any(|map| is_same(map.name.as_bytes(), name.as_bytes()))
+    names.maps.contains_key(name.as_str())
 }
 
-fn has_prefix_list(config: &RouterConfig, name: &Text) -> bool
+fn has_prefix_list(config: &RouterConfig, names: &Names, name: &Text) -> bool
+    requires { HasNames config.now names.now }
     ensures { result ≡ has_prefix_list config.now name.now }
 {
-    let mut lists = config.prefix_lists.as_slice().iter();
-    lists.any(|list| is_same(list.name.as_bytes(), name.as_bytes()))
+    names.prefix_lists.contains_key(name.as_str())
 }
 
-fn has_community_list(config: &RouterConfig, name: &Text) -> bool
+fn has_community_list(config: &RouterConfig, names: &Names, name: &Text) -> bool
+    requires { HasNames config.now names.now }
     ensures { result ≡ has_community_list config.now name.now }
 {
-    let mut lists = config.community_lists.as_slice().iter();
-    lists.any(|list| is_same(list.name.as_bytes(), name.as_bytes()))
+    names.community_lists.contains_key(name.as_str())
 }
 
 // Whether the file defines no such map or list.
-fn is_undefined(config: &RouterConfig, what: &Needed) -> bool
+fn is_undefined(config: &RouterConfig, names: &Names, what: &Needed) -> bool
+    requires { HasNames config.now names.now }
     ensures { result ≡ is_undefined config.now what.now }
 {
     match what {
-        Needed::Map(name) => !has_map(config, name),
-        Needed::PrefixList(name) => !has_prefix_list(config, name),
-        Needed::CommunityList(name) => !has_community_list(config, name),
+        Needed::Map(name) => !has_map(config, names, name),
+        Needed::PrefixList(name) => !has_prefix_list(config, names, name),
+        Needed::CommunityList(name) => !has_community_list(config, names, name),
         Needed::OwnAs(_asns) => false,
     }
 }
@@ -176,11 +190,12 @@ fn is_foreign(config: &RouterConfig, what: &Needed) -> bool
 
 /// The least line that names a map or a list that the file does not define.
 #[tactic(auto, unfolding(crate::specs::Needs::first_undefined))]
-pub fn first_undefined(config: &RouterConfig, needed: &[Need]) -> Option<u64>
+pub fn first_undefined(config: &RouterConfig, names: &Names, needed: &[Need]) -> Option<u64>
+    requires { HasNames config.now names.now }
     ensures { result ≡ first_undefined config.now needed.now }
 {
     for need in needed {
-        if is_undefined(config, &need.what) {
+        if is_undefined(config, names, &need.what) {
             return Some(need.line);
         }
     }

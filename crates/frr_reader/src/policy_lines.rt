@@ -6,6 +6,7 @@ ghost use Rattle.frr_policy.specs.CommunityLines.{community_list_row};
 ghost use Rattle.frr_policy.specs.MapLines.{map_line};
 ghost use Rattle.frr_reader.specs.Answers.{by_policy, Gives};
 
+use crate::by_name::ByName;
 use crate::causes::{BAD_VALUE, Cause, LineRefusal, OUT_OF_PLACE, REPEATED};
 use frr_policy::{
     LineRefusal as PolicyRefusal, MapStep, Words, read_community_list_line, read_map_line,
@@ -18,7 +19,7 @@ use std::alloc::Global;
 pub fn prefix_entry(
     alloc: Global,
     rest: &Words<'_>,
-    lists: &[PrefixList],
+    lists: &ByName<PrefixList>,
 ) -> Result<(Text, PrefixEntry), LineRefusal>
     ensures { Gives (by_policy (prefix_list_row rest.now lists.now)) result }
 {
@@ -37,7 +38,7 @@ pub fn prefix_entry(
 pub fn community_entry(
     alloc: Global,
     rest: &Words<'_>,
-    lists: &[CommunityList],
+    lists: &ByName<CommunityList>,
 ) -> Result<(Text, CommunityEntry), LineRefusal>
     ensures { Gives (by_policy (community_list_row rest.now lists.now)) result }
 {
@@ -56,7 +57,7 @@ pub fn community_entry(
 pub fn map_step(
     alloc: Global,
     line: &Words<'_>,
-    maps: &[RouteMap],
+    maps: &ByName<RouteMap>,
     current: Option<&MapEntry>,
 ) -> Result<MapStep, LineRefusal>
     ensures { Gives (by_policy (map_line line.now maps.now (option_copied current.entry))) result }

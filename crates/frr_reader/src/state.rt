@@ -4,15 +4,17 @@ ghost use Rattle.std.specs.Prelude.{◌≡◌};
 ghost use Rattle.frr_reader.specs.Answers.{Takes};
 ghost use Rattle.frr_reader.specs.State.{start};
 ghost use Rattle.frr_reader.specs.Reading.{judged, config_of};
+ghost use Rattle.frr_reader.specs.HasNames.{HasNames};
 ghost use Rattle.frr_reader.specs.Effects.{effect, host_line, exit_line, end_line};
 
 mod interface_rows;
 mod policy_rows;
 
 use crate::bgp::Bgp;
+use crate::by_name::ByName;
 use crate::causes::{BAD_VALUE, LineRefusal, REPEATED};
 use crate::modes::Mode;
-use crate::needs::{self, Need};
+use crate::needs::{self, Names, Need};
 use crate::rows::Row;
 use crate::values;
 use frr_policy::Words;
@@ -34,12 +36,12 @@ pub struct Reader {
     open_map: usize,
     open_entry: usize,
     host: Option<Text>,
-    interfaces: Vec<Interface>,
+    interfaces: ByName<Interface>,
     ospf: Option<List<Prefix>>,
     bgp: Option<Bgp>,
-    prefix_lists: Vec<PrefixList>,
-    community_lists: Vec<CommunityList>,
-    maps: Vec<RouteMap>,
+    prefix_lists: ByName<PrefixList>,
+    community_lists: ByName<CommunityList>,
+    maps: ByName<RouteMap>,
     // what the lines need of the whole file
     needed: Vec<Need>,
 }
@@ -49,7 +51,7 @@ impl Model for Reader {
 
     ghost Value = { State };
 
-    ghost view = { λ r. record { number = r.number; mode = r.mode; open_place = r.open_place; open_map = r.open_map; open_entry = r.open_entry; host = r.host; interfaces = r.interfaces.items; ospf = r.ospf; bgp = r.bgp; prefix_lists = r.prefix_lists.items; community_lists = r.community_lists.items; maps = r.maps.items; needed = r.needed.items } };
+    ghost view = { λ r. record { number = r.number; mode = r.mode; open_place = r.open_place; open_map = r.open_map; open_entry = r.open_entry; host = r.host; interfaces = r.interfaces; ospf = r.ospf; bgp = r.bgp; prefix_lists = r.prefix_lists; community_lists = r.community_lists; maps = r.maps; needed = r.needed.items } };
 }
 
 impl Reader {
@@ -64,12 +66,12 @@ impl Reader {
             open_map: 0,
             open_entry: 0,
             host: None,
-            interfaces: Vec::new(alloc),
+            interfaces: ByName::new(alloc),
             ospf: None,
             bgp: None,
-            prefix_lists: Vec::new(alloc),
-            community_lists: Vec::new(alloc),
-            maps: Vec::new(alloc),
+            prefix_lists: ByName::new(alloc),
+            community_lists: ByName::new(alloc),
+            maps: ByName::new(alloc),
             needed: Vec::new(alloc),
         }
     }
@@ -110,21 +112,27 @@ impl Reader {
             needed,
             ..
         } = self;
-        match host {
-            None => Err(ReadRefusal::NoHostname),
-            Some(host) => judge(
-                RouterConfig {
-                    host,
-                    interfaces: List::from_vec(interfaces),
-                    ospf,
-                    bgp: finished(bgp),
-                    prefix_lists: List::from_vec(prefix_lists),
-                    community_lists: List::from_vec(community_lists),
-                    maps: List::from_vec(maps),
-                },
-                needed.as_slice(),
-            ),
-        }
+        let Some(host) = host else {
+            return Err(ReadRefusal::NoHostname);
+        };
+        let (prefix_lists, prefix_list_names) = prefix_lists.into_parts();
+        let (community_lists, community_list_names) = community_lists.into_parts();
+        let (maps, map_names) = maps.into_parts();
+        let config = RouterConfig {
+            host,
+            interfaces: interfaces.into_list(),
+            ospf,
+            bgp: finished(bgp),
+            prefix_lists,
+            community_lists,
+            maps,
+        };
+        let names = Names {
+            prefix_lists: prefix_list_names,
+            community_lists: community_list_names,
+            maps: map_names,
+        };
+        judge(config, &names, needed.as_slice())
     }
 
     /// What the row does, given the words of the line and those behind the row's head.
@@ -208,10 +216,11 @@ fn finished(bgp: Option<Bgp>) -> Option<BgpConfig>
 
 // The configuration, where the file has what its lines need.
 #[tactic(auto, unfolding(crate::specs::Reading::judged))]
-fn judge(config: RouterConfig, needed: &[Need]) -> Result<RouterConfig, ReadRefusal>
+fn judge(config: RouterConfig, names: &Names, needed: &[Need]) -> Result<RouterConfig, ReadRefusal>
+    requires { HasNames config names.now }
     ensures { result ≡ judged config needed.now }
 {
-    if let Some(line) = needs::first_undefined(&config, needed) {
+    if let Some(line) = needs::first_undefined(&config, names, needed) {
         return Err(ReadRefusal::Undefined(line));
     }
     if let Some(line) = needs::first_foreign(&config, needed) {

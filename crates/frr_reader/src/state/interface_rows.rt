@@ -1,15 +1,16 @@
 //! What the rows of interfaces and of OSPF do.
 
-ghost use Rattle.std.specs.Prelude.{◌≡◌, ◌<◌, All, IfOk};
+ghost use Rattle.std.specs.Prelude.{◌≡◌, Some, IfOk, OnOk, MatchOption, slice_get, slice_set, true};
 ghost use Rattle.frr_reader.specs.Answers.{Takes};
-ghost use Rattle.frr_reader.specs.Effects.{fresh_interface, interface_line, address_line, area_line, cost_line, shutdown_line, ospf_line, network_line};
+ghost use Rattle.frr_reader.specs.Effects.{fresh_interface, place_of, with_interface, interface_line, address_line, area_line, cost_line, shutdown_line, ospf_line, network_line};
 
 use super::Reader;
+use crate::by_name::ByName;
 use crate::causes::{BAD_VALUE, LineRefusal, OUT_OF_PLACE, REPEATED};
 use crate::modes::Mode;
-use crate::{entries, values};
+use crate::values;
 use frr_policy::Words;
-use net_types::{Interface, List};
+use net_types::{Interface, List, Prefix, Text};
 use std::alloc::{AllocError, Global};
 
 impl Reader {
@@ -24,11 +25,8 @@ impl Reader {
         match values::name(rest) {
             None => Err(BAD_VALUE),
             Some(name) => {
-                let place = entries::place_of(self.interfaces.as_slice(), name);
-                if place >= self.interfaces.len() {
-                    self.interfaces.push(fresh_interface(alloc, name)?)?;
-                }
-                self.open_place = place;
+                let name = values::ascii_text(alloc, name)?;
+                self.open_place = open_interface(alloc, &mut self.interfaces, name)?;
                 self.mode = Mode::InInterface;
                 Ok(())
             }
@@ -43,9 +41,9 @@ impl Reader {
         match values::interface_address(rest) {
             None => Err(BAD_VALUE),
             Some(_address) if place >= self.interfaces.len() => Err(OUT_OF_PLACE),
-            Some(_address) if self.interfaces[place].address.is_some() => Err(REPEATED),
+            Some(_address) if self.interfaces.as_slice()[place].address.is_some() => Err(REPEATED),
             Some(address) => {
-                self.interfaces[place].address = Some(address);
+                set_address(&mut self.interfaces, place, address);
                 Ok(())
             }
         }
@@ -59,9 +57,9 @@ impl Reader {
         match values::area(rest) {
             None => Err(BAD_VALUE),
             Some(_area) if place >= self.interfaces.len() => Err(OUT_OF_PLACE),
-            Some(_area) if self.interfaces[place].ospf => Err(REPEATED),
+            Some(_area) if self.interfaces.as_slice()[place].ospf => Err(REPEATED),
             Some(_area) => {
-                self.interfaces[place].ospf = true;
+                set_ospf(&mut self.interfaces, place);
                 Ok(())
             }
         }
@@ -75,9 +73,9 @@ impl Reader {
         match values::cost(rest) {
             None => Err(BAD_VALUE),
             Some(_cost) if place >= self.interfaces.len() => Err(OUT_OF_PLACE),
-            Some(_cost) if self.interfaces[place].cost.is_some() => Err(REPEATED),
+            Some(_cost) if self.interfaces.as_slice()[place].cost.is_some() => Err(REPEATED),
             Some(cost) => {
-                self.interfaces[place].cost = Some(cost);
+                set_cost(&mut self.interfaces, place, cost);
                 Ok(())
             }
         }
@@ -94,7 +92,7 @@ impl Reader {
         if place >= self.interfaces.len() {
             return Err(OUT_OF_PLACE);
         }
-        self.interfaces[place].shutdown = true;
+        set_shutdown(&mut self.interfaces, place);
         Ok(())
     }
 
@@ -129,15 +127,66 @@ impl Reader {
 }
 
 // An interface of which nothing but its name is known.
-fn fresh_interface(alloc: Global, name: &[u8]) -> Result<Interface, AllocError>
-    requires { All (λ b. b < 128) name.now }
-    ensures { IfOk result (λ interface. interface ≡ fresh_interface name.now) }
+fn fresh_interface(name: Text) -> Interface
+    ensures { result ≡ fresh_interface name }
 {
-    Ok(Interface {
-        name: values::ascii_text(alloc, name)?,
+    Interface {
+        name,
         address: None,
         shutdown: false,
         ospf: false,
         cost: None,
-    })
+    }
+}
+
+// The place of the interface of this name, which is put behind the others if it is not there.
+fn open_interface(
+    alloc: Global,
+    interfaces: &mut ByName<Interface>,
+    name: Text,
+) -> Result<usize, AllocError>
+    ensures place { IfOk result (λ place. place ≡ place_of name interfaces.old) }
+    ensures there { OnOk result (interfaces.new ≡ with_interface name interfaces.old) }
+{
+    let place = interfaces.place_of(name.as_str());
+    if place >= interfaces.len() {
+        interfaces.push(alloc, fresh_interface(name))?;
+    }
+    Ok(place)
+}
+
+#[tactic(auto, using(crate::proofs::PlaceLemmas::places_set))]
+fn set_address(interfaces: &mut ByName<Interface>, place: usize, address: (u32, Prefix))
+    ensures { MatchOption (slice_get interfaces.old place) (interfaces.new ≡ interfaces.old) (λ i. interfaces.new ≡ slice_set interfaces.old place (record i { address = Some address })) }
+{
+    if place < interfaces.len() {
+        interfaces.items[place].address = Some(address);
+    }
+}
+
+#[tactic(auto, using(crate::proofs::PlaceLemmas::places_set))]
+fn set_ospf(interfaces: &mut ByName<Interface>, place: usize)
+    ensures { MatchOption (slice_get interfaces.old place) (interfaces.new ≡ interfaces.old) (λ i. interfaces.new ≡ slice_set interfaces.old place (record i { ospf = true })) }
+{
+    if place < interfaces.len() {
+        interfaces.items[place].ospf = true;
+    }
+}
+
+#[tactic(auto, using(crate::proofs::PlaceLemmas::places_set))]
+fn set_cost(interfaces: &mut ByName<Interface>, place: usize, cost: u32)
+    ensures { MatchOption (slice_get interfaces.old place) (interfaces.new ≡ interfaces.old) (λ i. interfaces.new ≡ slice_set interfaces.old place (record i { cost = Some cost })) }
+{
+    if place < interfaces.len() {
+        interfaces.items[place].cost = Some(cost);
+    }
+}
+
+#[tactic(auto, using(crate::proofs::PlaceLemmas::places_set))]
+fn set_shutdown(interfaces: &mut ByName<Interface>, place: usize)
+    ensures { MatchOption (slice_get interfaces.old place) (interfaces.new ≡ interfaces.old) (λ i. interfaces.new ≡ slice_set interfaces.old place (record i { shutdown = true })) }
+{
+    if place < interfaces.len() {
+        interfaces.items[place].shutdown = true;
+    }
 }

@@ -105,7 +105,7 @@ impl Reader {
     ) -> Result<(), LineRefusal>
         ensures { Takes (prefix_list_line rest.now self.old) self.new result }
     {
-        let (name, entry) = policy_lines::prefix_entry(alloc, rest, self.prefix_lists.as_slice())?;
+        let (name, entry) = policy_lines::prefix_entry(alloc, rest, &self.prefix_lists)?;
         entries::add_prefix_entry(alloc, &mut self.prefix_lists, name, entry)?;
         Ok(())
     }
@@ -118,8 +118,7 @@ impl Reader {
     ) -> Result<(), LineRefusal>
         ensures { Takes (community_list_line rest.now self.old) self.new result }
     {
-        let lists = self.community_lists.as_slice();
-        let (name, entry) = policy_lines::community_entry(alloc, rest, lists)?;
+        let (name, entry) = policy_lines::community_entry(alloc, rest, &self.community_lists)?;
         entries::add_community_entry(alloc, &mut self.community_lists, name, entry)?;
         Ok(())
     }
@@ -136,7 +135,7 @@ impl Reader {
     fn begin_entry(&mut self, alloc: Global, name: Text, entry: MapEntry) -> Result<(), AllocError>
         ensures { OnOk result (self.new ≡ with_begun name entry self.old) }
     {
-        let map = entries::place_of(self.maps.as_slice(), name.as_bytes());
+        let map = self.maps.place_of(name.as_str());
         let among = entries::entries_at(self.maps.as_slice(), map);
         let place = entries::place_for(among, u32::from(entry.seq));
         entries::add_map_entry(alloc, &mut self.maps, name, entry)?;
@@ -170,7 +169,7 @@ impl Reader {
     pub(super) fn take_map(&mut self, alloc: Global, line: &Words<'_>) -> Result<(), LineRefusal>
         ensures { Takes (map_row_line line.now self.old) self.new result }
     {
-        match policy_lines::map_step(alloc, line, self.maps.as_slice(), self.open_entry())? {
+        match policy_lines::map_step(alloc, line, &self.maps, self.open_entry())? {
             MapStep::Begin(name, entry) => self.begin_entry(alloc, name, entry)?,
             MapStep::Change(entry) => self.change_entry(alloc, entry)?,
         }

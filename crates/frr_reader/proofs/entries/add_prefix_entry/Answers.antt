@@ -1,9 +1,9 @@
-use Rattle.std.proofs.Common.{◌≡◌, ◌∷◌, [], ◌∙◌, Bool, ap, sym, length}
+use Rattle.std.proofs.Common.{◌≡◌, ◌<◌, ◌∷◌, [], Bool, List, OnOk, length, set, subst, sym}
 use Rattle.std.specs.List.{position_or_len}
 use Rattle.net_types.specs.Order.{same_text}
 use Rattle.net_types.specs.declared.config.PrefixList.{PrefixList}
 use Rattle.net_types.specs.declared.config.PrefixEntry.{PrefixEntry}
-use Rattle.frr_reader.specs.Entries.{put}
+use Rattle.frr_reader.specs.Entries.{put, on_first}
 use Rattle.frr_reader.proofs.EntryLemmas.{added_new, added_old}
 use Rattle.frr_reader.proofs.entries.add_prefix_entry.Goals as goal
 
@@ -12,15 +12,17 @@ returns-then-place-len c =
     let test : PrefixList → Bool = λ l. same_text l.name c.args.name in
     let change : PrefixList → PrefixList = λ l. record l { entries = put (λ (e : PrefixEntry). e.seq) c.args.entry l.entries } in
     let new : PrefixList = record { name = c.args.name; entries = c.args.entry ∷ [] } in
-    let at : c.place_of-place.result ≡ position_or_len test c.args.lists.now.items = rw (c.as_slice.ensures.value, c.as_bytes.ensures) at c.place_of-place.ensures in
-    let len : c.len.result ≡ length c.args.lists.now.items = c.len.ensures ∙ (sym c.as_slice.ensures.len ∙ ap length c.as_slice.ensures.value) in
-    added_new test change new c.args.lists.now.items c.push.new.self.items c.place_of-place.result c.len.result at len c.if-place-len.true (rw c.in_ok-entries.ensures at c.in_ok-push.ensures.items)
+    let at : c.place_of-place.result ≡ position_or_len test c.args.lists.now = rw c.as_str.ensures at c.place_of-place.ensures in
+    added_new test change new c.args.lists.now c.push.new.self c.place_of-place.result c.len.result at c.len.ensures c.if-place-len.true (rw c.in_ok-entries.ensures at c.in_ok-push.ensures)
 
 pub returns : goal.returns
 returns c =
     let test : PrefixList → Bool = λ l. same_text l.name c.args.name in
     let change : PrefixList → PrefixList = λ l. record l { entries = put (λ (e : PrefixEntry). e.seq) c.args.entry l.entries } in
     let new : PrefixList = record { name = c.args.name; entries = c.args.entry ∷ [] } in
-    let at : c.place_of-place.result ≡ position_or_len test c.args.lists.now.items = rw (c.as_slice.ensures.value, c.as_bytes.ensures) at c.place_of-place.ensures in
-    let len : c.len.result ≡ length c.args.lists.now.items = c.len.ensures ∙ (sym c.as_slice.ensures.len ∙ ap length c.as_slice.ensures.value) in
-    added_old test change new c.args.lists.now.items c.place_of-place.result c.len.result c.index_mut.result.now c.put_in_prefix_list.new.list c.put_in_prefix_list.result at len c.if-place-len.false c.index_mut.ensures.value c.put_in_prefix_list.ensures
+    let at : c.place_of-place.result ≡ position_or_len test c.args.lists.now = rw c.as_str.ensures at c.place_of-place.ensures in
+    let xs : List PrefixList = c.lists.inside.items.items in
+    let at-inside : c.place_of-place.result ≡ position_or_len test xs = subst (λ ys. c.place_of-place.result ≡ position_or_len test ys) (sym c.lists.view_is) at in
+    let len-inside : c.len.result ≡ length xs = subst (λ ys. c.len.result ≡ length ys) (sym c.lists.view_is) c.len.ensures in
+    subst (λ ys. OnOk c.put_in_prefix_list.result (set xs c.place_of-place.result c.put_in_prefix_list.new.list ≡ on_first test change new ys)) c.lists.view_is
+    (added_old test change new xs c.place_of-place.result c.len.result c.index_mut.result.now c.put_in_prefix_list.new.list c.put_in_prefix_list.result at-inside len-inside c.if-place-len.false c.index_mut.ensures.value c.put_in_prefix_list.ensures.value)
