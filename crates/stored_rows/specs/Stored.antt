@@ -1,6 +1,6 @@
 -- Which stored row is the first that is not valid: in the first table that has one. Tables are numbered in their
 -- order, rows from 1.
-use Rattle.std.specs.Prelude.{ℕ, ◌+◌, ◌≡◌, ◌≤◌, Bool, true, false, List, [], ◌∷◌, ◌++◌, ◌||◌, ◌&&◌, ◌==◌, Option, Some, None, length, slice_index_or, nat_lt, nat_le, not, unwrap_or, if◌then◌else◌}
+use Rattle.std.specs.Prelude.{ℕ, ◌+◌, ◌≡◌, ◌≤◌, ◌↔◌, Bool, true, false, List, [], ◌∷◌, ◌++◌, ◌||◌, ◌&&◌, ◌==◌, Option, Some, None, length, slice_index_or, nat_lt, nat_le, not, unwrap_or, if◌then◌else◌}
 use Rattle.std.specs.List.{list_any}
 use Rattle.std.specs.declared.cmp.Ordering.{Ordering}
 use Rattle.std.specs.Ordering.{nat_cmp}
@@ -134,6 +134,6 @@ pub record Marks (heads : ℕ) (past : List ReviewRow) (seen : List Bool) : Type
   pub long : length seen ≡ heads + 1
   pub each : (head : ℕ) → head ≤ heads → slice_index_or seen head false ≡ list_any (has_head head) past
 
--- tables without a bad row are valid
-abbrev pub GoodRowsAreValid : Type 0
-GoodRowsAreValid = (t : Rows) → first_bad_row t ≡ None → IsValid t
+-- tables are valid exactly where no row is bad
+abbrev pub ValidWithoutBadRow : Type 0
+ValidWithoutBadRow = (t : Rows) → first_bad_row t ≡ None ↔ IsValid t

@@ -1,8 +1,8 @@
 //! What is true of stored rows: the contract of a function that does nothing.
 
-ghost use Rattle.stored_rows.specs.Stored.{GoodRowsAreValid};
+ghost use Rattle.stored_rows.specs.Stored.{ValidWithoutBadRow};
 
-/// Tables without a bad row are valid.
+/// Tables are valid exactly where no row of them is bad.
 pub fn law_of_stored_rows()
-    ensures { GoodRowsAreValid }
+    ensures { ValidWithoutBadRow }
 {}
