@@ -1,16 +1,18 @@
 -- Tables that are in key order stay so.
 use Rattle.std.specs.Prelude.{Result, Ok, Err, OnOk, OnErr}
-use Rattle.std.proofs.Common.{◌≡◌, ℕ, Bool, true, false, List, [], ◌∷◌, ◌&&◌, ◌==◌, map, if◌then◌else◌, refl, sym, ap, ◌∙◌, subst}
+use Rattle.std.proofs.Common.{◌≡◌, ℕ, ◌+◌, ◌<◌, Bool, true, false, List, [], ◌∷◌, ◌&&◌, ◌==◌, map, if◌then◌else◌, refl, sym, ap, ◌∙◌, subst, arith}
 use Rattle.std.specs.List.{list_all}
 use Rattle.std.specs.Ordering.{nat_cmp, is_lt}
 use Rattle.std.proofs.lemmas.Cmp.{nat_cmp_total}
-use Rattle.desk_tables.specs.Order.{after, Ascends, put, numbered_cmp, texts_cmp}
+use Rattle.desk_tables.specs.Order.{after, Ascends, Counts, put, numbered_cmp, texts_cmp}
+use Rattle.desk_tables.specs.Valid.{IsValid}
 use Rattle.desk_tables.specs.Tables.{policy_key, review_key, file_key, approval_key, certificate_key, kept_key, at_review, merged, withdrawn}
 use Rattle.desk_tables.specs.declared.rows.Rows.{Rows}
 use Rattle.desk_tables.specs.declared.rows.ReviewRow.{ReviewRow}
 use Rattle.desk_tables.specs.declared.rows.FileRow.{FileRow}
 use Rattle.desk_tables.specs.declared.rows.KeptRow.{KeptRow}
 use Rattle.desk_tables.proofs.TableLemmas.{and_true, numbered_total, texts_total}
+use Rattle.desk_tables.proofs.PlaceLemmas.{is_below}
 use Rattle.desk_tables.proofs.PutLemmas.{ascends_put}
 use Rattle.review_rules.specs.Changes.{put_all, with_kind, made}
 use Rattle.review_rules.specs.declared.changes.Change.{Change}
@@ -59,3 +61,17 @@ made_in_order t change o =
 pub made_or_same : (t u : Rows) (change : Change) (r : Result (Unit {0}) NoMemory) → AreInOrder t → OnOk r (u ≡ made change t) → OnErr r (u ≡ t) → AreInOrder u
 made_or_same t u change (Ok done) o is same = subst AreInOrder (sym is) (made_in_order t change o)
 made_or_same t u change (Err e) o is same = subst AreInOrder (sym same) o
+
+-- rows that are numbered one by one are in the order of their numbers
+numbers_behind : {X : Type 0} (number : X → ℕ) (k n : ℕ) (xs : List X) → k < n → Counts number n xs → list_all (after nat_cmp number k) xs ≡ true
+numbers_behind number k n [] low counts = refl
+numbers_behind number k n (x ∷ xs) low counts =
+    let less : is_lt (nat_cmp k (number x)) ≡ true = is_below k (number x) (omega (arith, counts.0)) in
+    rw (less, numbers_behind number k (n + 1) xs (omega arith) counts.1) refl
+
+counts_ascend : {X : Type 0} (number : X → ℕ) (n : ℕ) (xs : List X) → Counts number n xs → Ascends nat_cmp number xs
+counts_ascend number n [] counts = tt
+counts_ascend number n (x ∷ xs) counts = (numbers_behind number (number x) (n + 1) xs (omega (arith, counts.0)) counts.1, counts_ascend number (n + 1) xs counts.1)
+
+pub valid_in_order : (t : Rows) → IsValid t → AreInOrder t
+valid_in_order t is = record { policies = counts_ascend policy_key 1 t.policies is.versions; reviews = counts_ascend review_key 1 t.reviews is.numbers; files = is.files_ascend; approvals = is.approvals_ascend; certificates = is.certificates_ascend; kept = is.kept_ascend }

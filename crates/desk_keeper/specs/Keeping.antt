@@ -1,5 +1,5 @@
 -- What a keeper tells, and what a performed request does.
-use Rattle.std.specs.Prelude.{ℕ, ◌≡◌, ◌≤◌, List, [], ◌∷◌, Option, Some, None, Result, Ok, Err}
+use Rattle.std.specs.Prelude.{ℕ, ◌≡◌, ◌≤◌, ◌⊎◌, List, [], ◌∷◌, Option, Some, None, Result, Ok, Err}
 use Rattle.std.specs.Option.{option_map}
 use Rattle.outside.specs.Faults.{Rose}
 use Rattle.desk_tables.specs.declared.rows.Rows.{Rows}
@@ -49,13 +49,17 @@ AnswersKept outcome (PerformedRepeated reply) = outcome ≡ Repeated reply
 AnswersKept outcome NoMemory = Unit {0}
 AnswersKept outcome _ = ⊥
 
--- what `start` comes to: a store of these users, whose tables are those that are told; or why there is none
+-- what `start` comes to: a store of these users, whose tables are those that are told; or why there is none. At a
+-- fault and without memory the keeper is open under the name where it was opened, else it is not open
 abbrev pub BadWhereTold : Option Rows → ℕ → ℕ → Type 0
 BadWhereTold None table row = Unit {0}
 BadWhereTold (Some told) table row = first_bad_row told ≡ Some (table, row)
 
+abbrev pub IsOpenOrShut : Option (List ℕ) → List ℕ → Type 0
+IsOpenOrShut shown name = (shown ≡ Some name) ⊎ (shown ≡ None)
+
 abbrev pub Starts : List User → Option Rows → Option (List ℕ) → List ℕ → ℕ → ℕ → Result Held StartRefusal → Type 0
 Starts users told shown name before now (Ok store) = (store.state.users ≡ users) × Agrees told store.state.tables × (shown ≡ Some name) × (now ≡ before)
-Starts users told shown name before now (Err StartFailed) = Rose before now
+Starts users told shown name before now (Err StartFailed) = Rose before now × IsOpenOrShut shown name
 Starts users told shown name before now (Err (BadRow table row)) = BadWhereTold told table row × (shown ≡ Some name) × (now ≡ before)
-Starts users told shown name before now (Err NoStartMemory) = now ≡ before
+Starts users told shown name before now (Err NoStartMemory) = (now ≡ before) × IsOpenOrShut shown name

@@ -10,11 +10,13 @@
 
 mod copies;
 mod keeper;
+mod laws;
 mod making;
 mod mem_keeper;
 mod puts;
 mod store;
 
 pub use keeper::{Keeper, KeeperError};
+pub use laws::law_of_order;
 pub use mem_keeper::MemKeeper;
 pub use store::{DeskStore, Performed, StartRefusal};

@@ -12,7 +12,8 @@ use review_rules::Change;
 use std::alloc::Global;
 use std::marker::Model;
 
-/// A keeper in memory, whose tables are in key order. Its calls are counted from 1.
+/// A keeper in memory, whose tables are in key order. Its calls are counted from 1, and those that are to fail do; at
+/// them alone its count of faults rises.
 #[derive(Debug, Drop)]
 pub struct MemKeeper {
     calls: Calls,
@@ -54,7 +55,12 @@ impl MemKeeper {
 }
 
 impl Keeper for MemKeeper {
-    ghost use Rattle.std.specs.Prelude.{Some};
+    ghost use Rattle.std.specs.Prelude.{◌≡◌, ◌≢◌, None, Some, IfOk, OnOk, OnErr};
+    ghost use Rattle.std.specs.Option.{option_map};
+    ghost use Rattle.outside.specs.Calls.{begun};
+    ghost use Rattle.review_rules.specs.Changes.{made};
+    ghost use Rattle.desk_keeper.specs.Keeping.{Agrees, HasCause};
+    ghost use Rattle.desk_keeper.specs.Memory.{FailsExactly};
 
     ghost faults = { λ k. k.calls.faults };
 
@@ -62,19 +68,42 @@ impl Keeper for MemKeeper {
 
     ghost tables = { λ k. Some k.rows };
 
-    fn open(&mut self, alloc: Global, name: &str) -> Result<(), KeeperError> {
+    fn open(&mut self, alloc: Global, name: &str) -> Result<(), KeeperError>
+        ensures answer { FailsExactly self.old.calls result }
+        ensures counted { self.new.calls ≡ begun self.old.calls }
+        ensures cause { HasCause self.old.calls.faults self.new.calls.faults result }
+        ensures named { OnOk result (self.new.name ≡ Some name.now) }
+        ensures shut { OnErr result (self.new.name ≡ None) }
+        ensures same { Some self.new.rows ≡ Some self.old.rows }
+    {
         self.name = None;
         self.calls.begin()?;
         self.name = Some(Text::from_str(alloc, name)?);
         Ok(())
     }
 
-    fn load(&mut self, alloc: Global) -> Result<Rows, KeeperError> {
+    fn load(&mut self, alloc: Global) -> Result<Rows, KeeperError>
+        requires { self.old.name ≢ None }
+        ensures answer { FailsExactly self.old.calls result }
+        ensures counted { self.new.calls ≡ begun self.old.calls }
+        ensures cause { HasCause self.old.calls.faults self.new.calls.faults result }
+        ensures stays { self.new.name ≡ self.old.name }
+        ensures same { Some self.new.rows ≡ Some self.old.rows }
+        ensures told { IfOk result (λ rows. Agrees (Some self.old.rows) rows) }
+    {
         self.calls.begin()?;
         Ok(copy_rows(alloc, &self.rows)?)
     }
 
-    fn commit(&mut self, alloc: Global, change: &Change) -> Result<(), KeeperError> {
+    fn commit(&mut self, alloc: Global, change: &Change) -> Result<(), KeeperError>
+        requires { self.old.name ≢ None }
+        ensures answer { FailsExactly self.old.calls result }
+        ensures counted { self.new.calls ≡ begun self.old.calls }
+        ensures cause { HasCause self.old.calls.faults self.new.calls.faults result }
+        ensures stays { self.new.name ≡ self.old.name }
+        ensures made { OnOk result (Some self.new.rows ≡ option_map (made change.now) (Some self.old.rows)) }
+        ensures same { OnErr result (Some self.new.rows ≡ Some self.old.rows) }
+    {
         self.calls.begin()?;
         let change = copy_change(alloc, change)?;
         make(alloc, &mut self.rows, change)?;
