@@ -11,7 +11,7 @@ use bundle_reader::read_bundle;
 use commands::run;
 use frr_reader::read_router;
 use net_types::{BundleRefusal, List, NoMemory, SourceFile, Text};
-use outside::{MemShelf, MemSink, OpenGate, Steps};
+use outside::{MemShelf, MemSink, OpenGate, Shelf, Sink, Steps};
 use refusal_texts::bundle_text;
 use std::alloc::Global;
 use std::marker::Brand;
@@ -65,18 +65,30 @@ fn network_ending(alloc: Global, case: &Case, folder: &str) -> Result<Ending, No
     }
 }
 
-// How a run of the program over the files of the case ends, with a counter of the ledger that the blank names.
-fn counted_ending<R: Threads + Sync, L: Ledger>(
+// The status of a run of the words, with a counter of the ledger that the blank names.
+fn status_of<R: Threads + Sync, F: Shelf, O: Sink, L: Ledger>(
     rt: &R,
     alloc: Global,
-    case: &Case,
-    words: &str,
+    words: &[Text],
+    shelf: &mut F,
+    out: &mut O,
     blank: Blank,
-) -> Result<Ending, NoMemory>
+) -> u8
     requires name { blank.name ≡ L.name }
     requires parts { blank.parts ≡ L.parts }
     requires some { 0 < blank.parts }
 {
+    let mut steps: Steps<L> = Steps::open(blank);
+    run(rt, alloc, words, shelf, out, &OpenGate, &mut steps).code()
+}
+
+// How a run of the program over the files of the case ends.
+fn run_ending<R: Threads + Sync>(
+    rt: &R,
+    alloc: Global,
+    case: &Case,
+    words: &str,
+) -> Result<Ending, NoMemory> {
     let content = List::from_vec(files_in(alloc, case.files.as_slice(), "")?);
     if !MemShelf::are_distinct(&content) {
         return ended_with(alloc, 2, "two files of one path\n");
@@ -84,23 +96,12 @@ fn counted_ending<R: Threads + Sync, L: Ledger>(
     let mut shelf = MemShelf::new(alloc, content, case.failing.as_slice())?;
     let mut out = MemSink::new(alloc, case.room, case.failing_writes.as_slice())?;
     let words = words_of(alloc, words)?;
-    let mut steps: Steps<L> = Steps::open(blank);
-    let (words, gate) = (words.as_slice(), &OpenGate);
-    let status = run(rt, alloc, words, &mut shelf, &mut out, gate, &mut steps).code();
+    let (words, blank) = (words.as_slice(), Blank::new(1));
+    let status = status_of::<_, _, _, Brand>(rt, alloc, words, &mut shelf, &mut out, blank);
     Ok(Ending {
         status,
         text: Vec::from_slice(alloc, out.bytes())?,
     })
-}
-
-// How a run ends.
-fn run_ending<R: Threads + Sync>(
-    rt: &R,
-    alloc: Global,
-    case: &Case,
-    words: &str,
-) -> Result<Ending, NoMemory> {
-    counted_ending::<R, Brand>(rt, alloc, case, words, Blank::new(1))
 }
 
 // How a question ends; one that is not known is said to be none.

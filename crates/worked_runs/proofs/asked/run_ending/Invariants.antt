@@ -1,4 +1,4 @@
 use Rattle.worked_runs.proofs.asked.run_ending.Given as goal
 
-abbrev pub ghosts-counted_ending : goal.ghosts-counted_ending
-ghosts-counted_ending g a = record { name = a.blank.name; parts = a.blank.parts }
+abbrev pub ghosts-status_of : goal.ghosts-status_of
+ghosts-status_of g a = record { name = a.blank.name; parts = a.blank.parts }
