@@ -1,6 +1,7 @@
 //! The judge: who says what is wrong with a bundle or a property file, and what a review breaks.
 
 ghost use Rattle.std.specs.Prelude.{◌≡◌, length};
+ghost use Rattle.std.specs.Thread.{IsSync};
 ghost use Rattle.review_rules.specs.Judging.{Judging, IsBookAnswer, IsBundleAnswer, IsRunAnswer, Means, NamesAscend};
 
 use crate::JudgeAnswer;
@@ -27,7 +28,7 @@ pub trait Judge {
         ensures same { meaning self.new ≡ meaning self.old };
 
     /// The run over two bundles and a property file: `Refused`, `BookRefused`, `Limit` or `Judged`. In each bundle
-    /// the names ascend.
+    /// the names ascend. Threads may share the runtime.
     fn run<R: Threads + Sync>(
         &mut self,
         rt: &R,
@@ -36,6 +37,7 @@ pub trait Judge {
         new: &[SourceFile],
         book: &[u8],
     ) -> JudgeAnswer
+        requires threads { IsSync R.row }
         requires base { NamesAscend base.now }
         requires new { NamesAscend new.now }
         ensures value { Means ((meaning self.old).run base.now new.now book.now) result }
