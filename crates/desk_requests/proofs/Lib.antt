@@ -1,0 +1,9 @@
+pub mod EndLemmas
+pub mod ReadLemmas
+pub mod FeedLemmas
+pub mod PathLemmas
+pub mod TextLemmas
+pub mod BodyLemmas
+pub mod FileLemmas
+pub mod HearLemmas
+pub mod OneLemmas

@@ -1,0 +1,7 @@
+use Rattle.std.proofs.Common.{◌≡◌, drop, map}
+use Rattle.httparse.specs.Spans.{header_bytes}
+use Rattle.desk_requests.specs.Fields.{value_named}
+use Rattle.desk_requests.proofs.fields.value_named.Given as goal
+
+abbrev pub invariant-loop-field : goal.invariant-loop-field
+invariant-loop-field l = value_named l.name (map (header_bytes l.buf) l.fields) ≡ value_named l.name (map (header_bytes l.buf) (drop l.field-index l.fields))
