@@ -1,0 +1,6 @@
+use Rattle.doors.proofs.GivingLemmas.{gives_then}
+use Rattle.desk_replies.proofs.giving.give_two.Goals as goal
+
+pub returns-in-Ok-clause-told : goal.returns-in-Ok-clause-told
+returns-in-Ok-clause-told g c = λ t e.
+    gives_then t c.args.a.now c.args.b.now c.give_all-in-Ok.result _ _ (c.in-Ok.ensures.told t e) c.give_all-in-Ok.ensures.told

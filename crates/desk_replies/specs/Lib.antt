@@ -1,0 +1,4 @@
+pub mod Replies
+pub mod RuleWords
+pub mod Views
+pub mod Laws
