@@ -12,10 +12,8 @@ use Rattle.desk_tables.specs.Tables.{approvals_to}
 use Rattle.desk_tables.specs.declared.rows.ApprovalRow.{ApprovalRow}
 use Rattle.desk_tables.specs.declared.rows.ReviewRow.{ReviewRow}
 use Rattle.desk_tables.specs.declared.rows.Rows.{Rows}
+use Rattle.desk_replies.specs.Laws.{user_of}
 use Rattle.desk_replies.specs.Views.{name_value, review_value}
-
-abbrev user_of : ApprovalRow → List ℕ
-user_of approval = approval.user
 
 named : (xs : List ApprovalRow) (at : ℕ) (name : List ℕ) → option_map user_of (slice_get xs at) ≡ Some name → map name_value (drop at xs) ≡ string name ∷ map name_value (drop (suc at) xs)
 named [] at name e = absurd (let f : None ≡ Some name = e in cc)

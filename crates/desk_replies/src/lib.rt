@@ -16,7 +16,7 @@ mod rules;
 mod views;
 
 pub use giving::{Media, give_reply};
-pub use laws::law_of_phrases;
+pub use laws::{law_of_names, law_of_phrases};
 pub use refusals::{http_body, http_code, memory_body, store_body};
 pub use rules::{rule_body, rule_code};
 pub use views::{head_body, review_body};
