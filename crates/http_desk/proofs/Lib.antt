@@ -1,0 +1,3 @@
+pub mod ServeLemmas
+pub mod OneLemmas
+pub mod RuledLemmas
