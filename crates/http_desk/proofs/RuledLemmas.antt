@@ -1,5 +1,5 @@
 -- From what was performed to what is replied.
-use Rattle.std.proofs.Common.{◌≡◌, ℕ, ◌⊎◌, inl, inr, List, Result, Ok, ap, sym, subst, ◌∙◌}
+use Rattle.std.proofs.Common.{◌≡◌, ℕ, inr, List, Result, Ok, ap, sym, ◌∙◌}
 use Rattle.review_rules.specs.State.{State}
 use Rattle.review_rules.specs.Rules.{Repeated, Refused, Accepted}
 use Rattle.review_rules.specs.Judging.{IsRequest, Judging, judged}
@@ -45,6 +45,6 @@ pub refused_as : (j : Judging) (s next : State) (r : Request) (rule : Rule) (bef
     → IsRuling (broken next (side_files next.tables r.command (refused_side rule)) rule) next ruling → RuledAs j s (Ok (AskedCommand r)) before now ruling next
 refused_as j s next r rule before now ruling e same is =
     ruled_as j s (Ok (AskedCommand r)) before now ruling next (broken next (side_files next.tables r.command (refused_side rule)) rule)
-      (ap (performed s r.command) e ∙ ap (λ (x : State). broken x (side_files x.tables r.command (refused_side rule)) rule) (sym same))
-      same
-      is
+    (ap (performed s r.command) e ∙ ap (λ (x : State). broken x (side_files x.tables r.command (refused_side rule)) rule) (sym same))
+    same
+    is

@@ -12,7 +12,7 @@ use Rattle.http_desk.specs.declared.ruling.Ruling.TheVariants.{Done, Broken, Fau
 use Rattle.http_desk.specs.declared.serving.Served.{Served}
 use Rattle.http_desk.specs.declared.serving.Served.TheVariants.{Replied, DoorFault}
 use Rattle.http_desk.specs.Ruled.{as_answer, RuledAs, RepliesWith}
-use Rattle.http_desk.specs.Serves.{IsReply, defined, store_fault, no_memory, no_store, no_room, text_of, Converses, IsServed, Serves, after}
+use Rattle.http_desk.specs.Serves.{IsReply, defined, store_fault, no_memory, no_store, no_room, text_of, Converses, Serves, after}
 
 -- a ruling on what was asked is a reply
 pub is_reply : (j : Judging) (s : State) (input : List ℕ) (a : Result Asked HttpRefusal) (before now : ℕ) (ruling : Ruling) (next : State)
@@ -42,8 +42,7 @@ pub serves : (j : Judging) (s : State) (t : Told) (input : List ℕ) (before now
     → t.talk ≡ Some (record { left = input; given = [] }) → Converses j s t before now served next told → ((u : Told) → told ≡ Some u → after_end ≡ Some (ending u))
     → Serves j s t input before now served next after_end
 serves j s t input before now (Replied code) next told after_end e x h =
-    let same : left_of t ≡ input = ap left_in e in
-    (
+    let same : left_of t ≡ input = ap left_in e in (
       text_of x.0,
       (x.0, subst (λ (c : List ℕ). IsReply j s c before now x.0) same x.1, x.2, x.3, refl),
       h _ x.4.1 ∙ ap Some (ended t input (text_of x.0) x.4.0 e),
@@ -51,8 +50,7 @@ serves j s t input before now (Replied code) next told after_end e x h =
 serves j s t input before now DoorFault next told after_end e (inl x) h =
     ([], inl (x.0, refl), h _ (x.1.1 ∙ ap Some (sym (giving_nothing (past x.1.0 t)))) ∙ ap Some (ended t input [] x.1.0 e))
 serves j s t input before now DoorFault next told after_end e (inr x) h =
-    let same : left_of t ≡ input = ap left_in e in
-    (
+    let same : left_of t ≡ input = ap left_in e in (
       take x.3.1 (text_of x.0),
       inr (x.0, subst (λ (c : List ℕ). IsReply j s c before now x.0) same x.1, x.2, (x.3.1, x.3.2, refl)),
       h _ x.3.3 ∙ ap Some (ended t input (take x.3.1 (text_of x.0)) x.3.0 e),

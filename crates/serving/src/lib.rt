@@ -1,0 +1,11 @@
+//! Conversations with the review desk, one after the other.
+//!
+//! Decides: that a conversation that failed ends itself alone, and that a door that begins no other ends them all.
+//! Stands on: `http_desk` for each of them, `doors`, `desk_keeper` and `review_rules`.
+//! Promises: `serve_all` serves as many as it is told, each from the state that the one before left; what is given to
+//! each is that of `http_desk`. Not: how long one takes.
+#![tactic(auto)]
+
+mod serving;
+
+pub use serving::serve_all;
