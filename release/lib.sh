@@ -131,19 +131,56 @@ can_run() {
     [ "$?" -eq 3 ]
 }
 
+# Prints how many crates are done: those that the toolchain's lines $1 call proved, and all that these stand on.
+count_done() {
+    local name
+    while read -r name; do
+        crates_of "$name" 2>/dev/null
+    done < <(sed -n 's/^crate \([a-z0-9_]*\): .*/\1/p' <<<"$1") | sort -u | wc -l
+}
+
+# Reads what a build says from the descriptor $1 to its end, and keeps it in `said`. Where standard error is a terminal, it
+# tells every half minute how many of $2 crates are done.
+follow_build() {
+    local part status=0 due=$((SECONDS + 30))
+    said=
+    until [ "$status" -eq 1 ]; do
+        # Where the wait ends first, a line's beginning is read.
+        IFS= read -r -t 1 part <&"$1"
+        status=$?
+        said+=$part
+        [ "$status" -ne 0 ] || said+=$'\n'
+        if [ -t 2 ] && ((SECONDS >= due)); then
+            due=$((SECONDS + 30))
+            say "$(count_done "$said") of $2 crates done"
+        fi
+    done
+}
+
 # Proves and builds the program here, and writes its record. The run that comes with it takes the crate's own example, whose
 # status is 0: so the status is 0 exactly where all is proved and the program runs. It is built as the gate builds it, by
 # LLVM, whatever compiler RT_BACKEND names.
 build() {
-    local before said
+    local before said crates lines maker status
     has_rt || return 1
     say "proving and building the program, which takes twenty minutes or more on four processors the first time"
     if ! before=$(sources_sum); then
         say "the sources cannot be read"
         return 1
     fi
-    if ! said=$(cd -- "$top/crates/route_desk" && env -u RT_BACKEND rt run -- check data/base data/new data/properties.toml </dev/null); then
-        [ -z "$said" ] || printf '%s\n' "$said" >&2
+    crates=$(crates_of route_desk) || return 1
+    exec {lines}< <(cd -- "$top/crates/route_desk" &&
+        exec env -u RT_BACKEND rt run -- check data/base data/new data/properties.toml </dev/null 2>&1)
+    maker=$!
+    # Where this ends early, so does the build.
+    trap 'kill "$maker" 2>/dev/null' EXIT
+    follow_build "$lines" "$(wc -l <<<"$crates")"
+    exec {lines}<&-
+    wait "$maker"
+    status=$?
+    trap - EXIT
+    if [ "$status" -ne 0 ]; then
+        printf '%s' "$said" >&2
         say "the program could not be built"
         return 1
     fi
