@@ -16,10 +16,10 @@ run=0 differing=0
 # Runs the example of the page $1 with the words $2, which has to print $3 and to end with the status $4.
 run_example() {
     local page=$1 wanted=$3 wanted_status=$4 printed status
-    local -a words
-    read -ra words <<<"$2"
+    local -a asked
+    read -ra asked <<<"$2"
     # The point keeps the last line's end.
-    printed=$("$program" "${words[@]}" 2>&1 </dev/null; status=$?; printf .; exit "$status")
+    printed=$("$program" "${asked[@]}" 2>&1 </dev/null; status=$?; printf .; exit "$status")
     status=$?
     run=$((run + 1))
     if [ "$printed" = "$wanted." ] && [ "$status" = "$wanted_status" ]; then
