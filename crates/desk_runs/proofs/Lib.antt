@@ -1,0 +1,4 @@
+pub mod JudgeLemmas
+pub mod KeeperLemmas
+pub mod RequestLemmas
+pub mod RowLemmas

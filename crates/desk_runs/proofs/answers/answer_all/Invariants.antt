@@ -1,0 +1,5 @@
+use Rattle.std.proofs.Common.{◌≡◌, ◌≢◌, None}
+use Rattle.desk_runs.proofs.answers.answer_all.Given as goal
+
+abbrev pub invariant-loop-step : goal.invariant-loop-step
+invariant-loop-step g l = (l.keeper.name ≢ None) × (l.keeper.rows ≡ l.store.state.tables)
