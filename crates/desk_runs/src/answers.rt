@@ -4,10 +4,10 @@ ghost use Rattle.std.specs.Prelude.{◌≡◌, ◌≢◌, ◌≤◌, None, true,
 ghost use Rattle.desk_keeper.specs.Memory.{AreInOrder};
 
 use crate::FixedJudge;
-use crate::asked::users_text;
 use crate::cases::{Case, Step};
 use crate::performing::answer;
 use crate::setting::{Setting, setting_of};
+use crate::texts::users_text;
 use desk_keeper::{DeskStore, MemKeeper, StartRefusal};
 use desk_tables::{Rows, User};
 use net_types::{FormRefusal, List, NoMemory};

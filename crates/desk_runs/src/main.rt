@@ -24,19 +24,22 @@
 //! bytes;
 //! `?` a question: `users`, what the file of users says; `restore`, whether the rows make a desk; `start`, whether the
 //! store does, which has to be the first, over rows that are valid or of which no table has two; `tables`, how many rows
-//! each table of the keeper has; `head`, the desk's;
+//! each table of the keeper has; `head`, the desk's; what its readers find, each as a row stands in a setting: `policy`
+//! with a version, `review` and `certificate` with a review, `kept` with a row, `file` and `approver` with a review and a
+//! position from 0, `merged` with a head;
 //! `=>` the answer to the request or question before it.
 //! An empty line and one that begins with `#` are comments.
 #![tactic(auto)]
 
 mod answers;
-mod asked;
 mod cases;
 mod fixed_judge;
 mod performing;
+mod reading;
 mod requests;
 mod setting;
 mod stored;
+mod texts;
 mod words;
 
 use answers::answers_of;

@@ -3,8 +3,10 @@
 ghost use Rattle.std.specs.Prelude.{◌≡◌, ◌≢◌, None};
 
 use crate::FixedJudge;
-use crate::asked::{rule_text, tables_text};
+use crate::reading::read;
 use crate::requests::request_of;
+use crate::texts::{rule_text, tables_text};
+use crate::words::cut_word;
 use desk_keeper::{DeskStore, MemKeeper, Performed};
 use net_types::{List, NoMemory};
 use std::alloc::Global;
@@ -44,10 +46,10 @@ fn question(
     keeper: &MemKeeper,
     words: &str,
 ) -> Result<String, NoMemory> {
-    match words {
-        "tables" => tables_text(alloc, keeper.rows()),
-        "head" => head_text(alloc, store),
-        _ => Ok(String::from_str(alloc, "no question")?),
+    match cut_word(words) {
+        ("tables", "") => tables_text(alloc, keeper.rows()),
+        ("head", "") => head_text(alloc, store),
+        (reader, numbers) => read(alloc, store.desk(), reader, numbers),
     }
 }
 
