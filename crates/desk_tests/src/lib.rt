@@ -1,7 +1,11 @@
-//! Tests of what the desk has of the machine: conversations through sockets.
+//! Tests of what the desk has of the machine: conversations through sockets, and tables in a database.
 #![tactic(auto)]
 
 #[cfg(test)]
 mod asserting;
 #[cfg(test)]
+mod changes;
+#[cfg(test)]
 mod conversations;
+#[cfg(test)]
+mod keeping;

@@ -1,0 +1,5 @@
+use Rattle.std.proofs.Common.{◌≡◌, Some}
+use Rattle.desk_tests.proofs.keeping.are_refused.Given as goal
+
+abbrev pub invariant-loop-change : goal.invariant-loop-change
+invariant-loop-change g l = g.K.Keeper.opened l.keeper ≡ Some l.name
