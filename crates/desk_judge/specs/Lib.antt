@@ -1,0 +1,4 @@
+pub mod Answer
+pub mod Verdict
+pub mod Judged
+pub mod Laws
