@@ -37,7 +37,8 @@ pub enum Command<'a> {
     },
 }
 
-fn is_path(word: &Text) -> bool
+/// Whether a word may stand behind the first: it has a byte, and does not begin with `-`.
+pub fn is_path(word: &Text) -> bool
     ensures { result ≡ is_path word.now }
 {
     match word.as_bytes() {
@@ -70,9 +71,9 @@ fn is_gen(word: &Text) -> bool
     word.as_bytes() == b"gen".as_slice()
 }
 
-// A count of workers: one digit, 1 to 8.
+/// A count of workers: one digit, 1 to 8.
 #[tactic(auto, using(crate::proofs::WordLemmas::number_within))]
-fn workers_of(word: &Text) -> Option<u8>
+pub fn workers_of(word: &Text) -> Option<u8>
     ensures value { result ≡ workers_of word.now }
     ensures range { IfSome result AreWorkers }
 {

@@ -20,5 +20,9 @@ mod stable;
 mod status;
 mod stop;
 
-pub use runs::run;
+pub use command::{is_path, workers_of};
+pub use folder::read_file;
+pub use refusals::{Bundle, Form, Refusal};
+pub use runs::{refuse, run, write};
 pub use status::Status;
+pub use stop::Stop;

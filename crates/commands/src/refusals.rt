@@ -23,6 +23,8 @@ pub enum Form {
     Properties,
     /// The label file.
     Labels,
+    /// The users of the review desk.
+    Users,
 }
 
 /// Why a command is refused.
@@ -36,6 +38,8 @@ pub enum Refusal {
     CasesLimit(BundleSide, u64),
     /// A TOML file is refused.
     Form(Form, FormRefusal),
+    /// A stored row of the review desk is not valid: the number of its table, and its own from 1.
+    BadRow(u64, u64),
 }
 
 fn side_word(side: BundleSide) -> &'static str
@@ -62,6 +66,7 @@ fn form_word(form: Form) -> &'static str
     match form {
         Form::Properties => "properties",
         Form::Labels => "labels",
+        Form::Users => "users",
     }
 }
 
@@ -94,6 +99,10 @@ pub fn line_of(alloc: Global, refusal: &Refusal) -> Result<String, NoMemory>
         Refusal::Form(form, refusal) => {
             let cause = form_text(alloc, *refusal)?;
             refused_line(alloc, form_word(*form), cause.as_str())
+        }
+        Refusal::BadRow(table, row) => {
+            let cause = format!(in alloc; "BadRow {table} {row}")?;
+            refused_line(alloc, "store", cause.as_str())
         }
     }
 }

@@ -27,8 +27,8 @@ use std::thread::Threads;
 const USAGE: &str =
     "usage: check BASE NEW PROPS [WORKERS] | stable BUNDLE LABELS | serve DB PORT COUNT USERS [WORKERS] | gen N [WORKERS]\n";
 
-// Writes a text, and ends with this status or with that of a sink that failed.
-fn write<O: Sink>(out: &mut O, text: &[u8], status: Status) -> Status
+/// Writes a text, and ends with this status or with that of a sink that failed.
+pub fn write<O: Sink>(out: &mut O, text: &[u8], status: Status) -> Status
     ensures { IsWritten status text.now (O.faults out.old) (O.faults out.new) (O.given out.old) (O.given out.new) result }
 {
     match give_all(out, text) {
@@ -43,8 +43,8 @@ fn status_of(good: bool) -> Status
     if good { Status::new(0) } else { Status::new(1) }
 }
 
-// Writes why a command is refused.
-fn refuse<O: Sink>(alloc: Global, out: &mut O, refusal: &Refusal) -> Status
+/// Writes why a command is refused.
+pub fn refuse<O: Sink>(alloc: Global, out: &mut O, refusal: &Refusal) -> Status
     ensures { IsWritten 2 (line_of refusal.now) (O.faults out.old) (O.faults out.new) (O.given out.old) (O.given out.new) result ⊎ IsSilent (O.faults out.old) (O.faults out.new) (O.given out.old) (O.given out.new) result }
 {
     match line_of(alloc, refusal) {

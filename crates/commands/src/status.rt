@@ -8,7 +8,8 @@ use std::marker::Model;
 ///
 /// 0: all verdicts of the new side are certified, or the labelling is stable. 1: one is not, or it is not.
 /// 2: a path is not there, or an input is refused. 3: the words are no command. 4: a call of the shelf failed.
-/// 5: a call of the sink failed. 8: there was no memory.
+/// 5: a call of the sink failed. 6: the keeper of the review desk failed when it was opened or loaded. 7: the door
+/// failed when it was opened or a conversation was to begin. 8: there was no memory.
 #[derive(Clone, Copy, PartialEq, Eq, Debug)]
 pub struct Status(u8);
 
