@@ -1,3 +1,4 @@
+pub mod DoorLemmas
 pub mod JudgeLemmas
 pub mod KeeperLemmas
 pub mod RequestLemmas

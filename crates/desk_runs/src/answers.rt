@@ -1,15 +1,18 @@
 //! What is answered to the steps of a case.
 
-ghost use Rattle.std.specs.Prelude.{◌≡◌, ◌≢◌, ◌≤◌, None, true, length, IfOk};
+ghost use Rattle.std.specs.Prelude.{◌≡◌, ◌≢◌, ◌≤◌, None, true, length, IfOk, IsTrue};
 ghost use Rattle.desk_keeper.specs.Memory.{AreInOrder};
 
 use crate::FixedJudge;
 use crate::cases::{Case, Step};
+use crate::lending_door::{LendingDoor, Lent};
 use crate::performing::answer;
 use crate::setting::{Setting, setting_of};
+use crate::talks::inputs_of;
 use crate::texts::users_text;
 use desk_keeper::{DeskStore, MemKeeper, StartRefusal};
 use desk_tables::{Rows, User};
+use doors::Door;
 use net_types::{FormRefusal, List, NoMemory};
 use refusal_texts::form_text;
 use review_rules::{RestoreRefusal, restore};
@@ -95,9 +98,11 @@ fn answer_all<R: Threads + Sync>(
     alloc: Global,
     mut store: DeskStore,
     mut keeper: MemKeeper,
+    mut door: LendingDoor,
     mut judge: FixedJudge,
     steps: &[Step],
 ) -> Result<Vec<String>, NoMemory>
+    requires open { IsTrue door.door.is_open }
     requires shown { keeper.name ≢ None }
     requires agrees { keeper.rows ≡ store.state.tables }
 {
@@ -107,7 +112,15 @@ fn answer_all<R: Threads + Sync>(
         if line == "? start" {
             answers.push(String::from_str(alloc, "started")?)?;
         } else {
-            let text = answer(rt, alloc, &mut store, &mut keeper, &mut judge, line)?;
+            let text = answer(
+                rt,
+                alloc,
+                &mut store,
+                &mut keeper,
+                &mut door,
+                &mut judge,
+                line,
+            )?;
             answers.push(text)?;
         }
     }
@@ -121,6 +134,25 @@ fn single(alloc: Global, answer: String) -> Result<Vec<String>, NoMemory> {
     Ok(answers)
 }
 
+// Opens the door, and asks the store the steps.
+fn open<R: Threads + Sync>(
+    rt: &R,
+    alloc: Global,
+    store: DeskStore,
+    keeper: MemKeeper,
+    mut door: LendingDoor,
+    judge: FixedJudge,
+    steps: &[Step],
+) -> Result<Vec<String>, NoMemory>
+    requires shown { keeper.name ≢ None }
+    requires agrees { keeper.rows ≡ store.state.tables }
+{
+    match door.open(0) {
+        Ok(()) => answer_all(rt, alloc, store, keeper, door, judge, steps),
+        Err(_) => single(alloc, String::from_str(alloc, "door fault")?),
+    }
+}
+
 // Starts a store over the rows, and asks it the steps.
 fn start<R: Threads + Sync>(
     rt: &R,
@@ -128,19 +160,25 @@ fn start<R: Threads + Sync>(
     users: List<User>,
     setting: Setting,
     steps: &[Step],
+    lent: Lent,
 ) -> Result<Vec<String>, NoMemory> {
     let Setting {
         rows,
         judge,
         failing,
+        shut,
         ..
     } = setting;
+    let Some(inputs) = inputs_of(alloc, steps)? else {
+        return single(alloc, String::from_str(alloc, "no conversation")?);
+    };
+    let door = LendingDoor::new(alloc, inputs, shut.as_slice(), lent)?;
     if !are_in_order(alloc, &rows)? {
         return single(alloc, String::from_str(alloc, "rows that are not valid")?);
     }
     let mut keeper = MemKeeper::new(alloc, rows, failing.as_slice())?;
     match DeskStore::start(alloc, &mut keeper, "desk", users) {
-        Ok(store) => answer_all(rt, alloc, store, keeper, judge, steps),
+        Ok(store) => open(rt, alloc, store, keeper, door, judge, steps),
         Err(refusal) => single(alloc, start_text(alloc, refusal)?),
     }
 }
@@ -151,6 +189,7 @@ fn answers_in<R: Threads + Sync>(
     alloc: Global,
     setting: Setting,
     steps: &[Step],
+    lent: Lent,
 ) -> Result<Vec<String>, NoMemory> {
     let first = match steps.first() {
         Some(step) => step.asked.as_str(),
@@ -160,7 +199,7 @@ fn answers_in<R: Threads + Sync>(
         "? users" => single(alloc, users_answer(alloc, &setting)?),
         "? restore" => single(alloc, restore_answer(alloc, setting)?),
         _ => match read_users(alloc, setting.users.as_bytes()) {
-            Ok(users) => start(rt, alloc, users, setting, steps),
+            Ok(users) => start(rt, alloc, users, setting, steps, lent),
             Err(FormRefusal::NoMemory) => Err(NoMemory),
             Err(refusal) => single(alloc, form_text(alloc, refusal)?),
         },
@@ -172,9 +211,10 @@ pub fn answers_of<R: Threads + Sync>(
     rt: &R,
     alloc: Global,
     case: &Case,
+    lent: Lent,
 ) -> Result<Vec<String>, NoMemory> {
     match setting_of(alloc, case.setting.as_slice())? {
-        Some(setting) => answers_in(rt, alloc, setting, case.steps.as_slice()),
+        Some(setting) => answers_in(rt, alloc, setting, case.steps.as_slice(), lent),
         None => single(
             alloc,
             String::from_str(alloc, "a setting that can't be read")?,

@@ -1,5 +1,6 @@
 //! A table of cases.
 
+use crate::talks::is_talk;
 use net_types::NoMemory;
 use std::alloc::Global;
 
@@ -8,6 +9,8 @@ use std::alloc::Global;
 pub struct Step {
     /// The line that asks.
     pub asked: String,
+    /// The lines of a conversation behind it.
+    pub lines: Vec<String>,
     /// The answer.
     pub wanted: String,
 }
@@ -55,6 +58,7 @@ impl Case {
     fn ask(&mut self, alloc: Global, line: &str) -> Result<(), NoMemory> {
         self.steps.push(Step {
             asked: String::from_str(alloc, line)?,
+            lines: Vec::new(alloc),
             wanted: String::new(alloc),
         })?;
         Ok(())
@@ -71,13 +75,23 @@ impl Case {
         }
     }
 
+    // Adds a line to the conversation that was asked for last, which has no answer yet.
+    fn add_line(&mut self, alloc: Global, line: &str) -> Result<(), NoMemory> {
+        match self.steps.last_mut() {
+            Some(step) if step.wanted.is_empty() && is_talk(step) => {
+                Ok(step.lines.push(String::from_str(alloc, line)?)?)
+            }
+            _ => self.misread(alloc, line),
+        }
+    }
+
     // Takes a line that is no name and no `+`. The setting stands before the first that asks.
     fn take(&mut self, alloc: Global, line: &str) -> Result<(), NoMemory> {
         match line.split_once(' ') {
             Some(("=>", answer)) => self.want(alloc, answer, line),
-            Some((">" | "?", _)) => self.ask(alloc, line),
+            Some((">" | "?" | "!" | "*", _)) => self.ask(alloc, line),
             _ if line.is_empty() || line.starts_with('#') => Ok(()),
-            _ if !self.steps.is_empty() => self.misread(alloc, line),
+            _ if !self.steps.is_empty() => self.add_line(alloc, line),
             _ => Ok(self.setting.push(String::from_str(alloc, line)?)?),
         }
     }

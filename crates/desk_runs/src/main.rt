@@ -34,23 +34,28 @@
 mod answers;
 mod cases;
 mod fixed_judge;
+mod lending_door;
 mod performing;
 mod reading;
+mod replies;
 mod requests;
 mod setting;
 mod stored;
+mod talks;
 mod texts;
 mod words;
 
 use answers::answers_of;
 use cases::{Case, table_of};
 use fixed_judge::{BookAnswer, BundleAnswer, FixedJudge, RunAnswer};
+use lending_door::Lent;
 use net_types::NoMemory;
 use std::alloc::Global;
 use std::env;
 use std::fs::{self, Files};
 use std::io::{self, ErrorKind};
 use std::thread::Threads;
+use talks::is_talk;
 
 // Prints each step of the case that is not answered as it says.
 fn compare(rt: &impl Print, case: &Case, answers: &[String]) -> io::Result<()> {
@@ -66,15 +71,47 @@ fn compare(rt: &impl Print, case: &Case, answers: &[String]) -> io::Result<()> {
     Ok(())
 }
 
+// Whether the case has conversations, and a door that does not fail.
+fn has_talks(case: &Case) -> bool {
+    let shut = case
+        .setting
+        .iter()
+        .any(|line| line.as_str().starts_with("%shut"));
+    !shut && case.steps.iter().any(|step| is_talk(step))
+}
+
+// Prints each step that is answered otherwise where single bytes are lent.
+fn compare_lent(rt: &impl Print, case: &Case, whole: &[String], single: &[String]) -> io::Result<()> {
+    for (i, step) in case.steps.iter().enumerate() {
+        let (whole, single) = (whole.get(i), single.get(i));
+        if let (Some(whole), Some(single)) = (whole, single) && whole.as_str() != single.as_str() {
+            println!(rt; "== {}, byte by byte\n{}\n=> {single}", case.name, step.asked)?;
+        }
+    }
+    Ok(())
+}
+
+// Runs a case that is understood; one with conversations a second time, with single bytes lent.
+fn run_steps(rt: &(impl Print + Threads + Sync), alloc: Global, case: &Case) -> io::Result<()> {
+    let Ok(answers) = answers_of(rt, alloc, case, Lent::Whole) else {
+        return Err(ErrorKind::OutOfMemory)?;
+    };
+    compare(rt, case, answers.as_slice())?;
+    if !has_talks(case) {
+        return Ok(());
+    }
+    match answers_of(rt, alloc, case, Lent::FirstByte) {
+        Ok(single) => compare_lent(rt, case, answers.as_slice(), single.as_slice()),
+        Err(NoMemory) => Err(ErrorKind::OutOfMemory)?,
+    }
+}
+
 // Runs a case whose lines are all understood; of another one prints the first line that is not.
 fn run_case(rt: &(impl Print + Threads + Sync), alloc: Global, case: &Case) -> io::Result<()> {
     if let Some(line) = &case.misread {
         return println!(rt; "== {}\nmisread: {line}", case.name);
     }
-    match answers_of(rt, alloc, case) {
-        Ok(answers) => compare(rt, case, answers.as_slice()),
-        Err(NoMemory) => Err(ErrorKind::OutOfMemory)?,
-    }
+    run_steps(rt, alloc, case)
 }
 
 // Runs the cases of a table, and prints how many there are, and how many answers they have.

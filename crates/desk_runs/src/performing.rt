@@ -1,13 +1,17 @@
 //! A desk over a keeper in memory, which is asked one thing after another.
 
-ghost use Rattle.std.specs.Prelude.{◌≡◌, ◌≢◌, None};
+ghost use Rattle.std.specs.Prelude.{◌≡◌, ◌≢◌, None, IsTrue};
 
 use crate::FixedJudge;
+use crate::lending_door::LendingDoor;
 use crate::reading::read;
+use crate::replies::reply_text;
 use crate::requests::request_of;
 use crate::texts::{rule_text, tables_text};
 use crate::words::cut_word;
 use desk_keeper::{DeskStore, MemKeeper, Performed};
+use doors::Door;
+use http_desk::serve_one;
 use net_types::{List, NoMemory};
 use std::alloc::Global;
 use std::thread::Threads;
@@ -75,22 +79,52 @@ fn perform<R: Threads + Sync>(
     performed_text(alloc, performed)
 }
 
+// Begins the next conversation, and serves it.
+#[tactic(auto, using(crate::proofs::KeeperLemmas::still_open))]
+fn converse<R: Threads + Sync>(
+    rt: &R,
+    alloc: Global,
+    store: &mut DeskStore,
+    keeper: &mut MemKeeper,
+    door: &mut LendingDoor,
+    judge: &mut FixedJudge,
+) -> Result<String, NoMemory>
+    requires open { IsTrue door.old.door.is_open }
+    requires shown { keeper.old.name ≢ None }
+    requires agrees { keeper.old.rows ≡ store.old.state.tables }
+    ensures opened { door.new.door.is_open ≡ door.old.door.is_open }
+    ensures shown { keeper.new.name ≢ None }
+    ensures agrees { keeper.new.rows ≡ store.new.state.tables }
+{
+    match door.next() {
+        Ok(()) => {
+            let _served = serve_one(rt, alloc, store, keeper, door, judge);
+            reply_text(alloc, door.given())
+        }
+        Err(_) => Ok(String::from_str(alloc, "door fault")?),
+    }
+}
+
 /// Answers the line of a step.
 pub fn answer<R: Threads + Sync>(
     rt: &R,
     alloc: Global,
     store: &mut DeskStore,
     keeper: &mut MemKeeper,
+    door: &mut LendingDoor,
     judge: &mut FixedJudge,
     line: &str,
 ) -> Result<String, NoMemory>
+    requires open { IsTrue door.old.door.is_open }
     requires shown { keeper.old.name ≢ None }
     requires agrees { keeper.old.rows ≡ store.old.state.tables }
+    ensures opened { door.new.door.is_open ≡ door.old.door.is_open }
     ensures shown { keeper.new.name ≢ None }
     ensures agrees { keeper.new.rows ≡ store.new.state.tables }
 {
     match line.split_once(' ') {
         Some((">", words)) => perform(rt, alloc, store, keeper, judge, words),
+        Some(("!" | "*", _)) => converse(rt, alloc, store, keeper, door, judge),
         Some(("?", words)) => question(alloc, store, keeper, words),
         _ => Ok(String::from_str(alloc, "no question")?),
     }

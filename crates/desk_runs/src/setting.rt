@@ -18,6 +18,8 @@ pub struct Setting {
     pub judge: FixedJudge,
     /// The calls of the keeper that fail, counted from 1.
     pub failing: Vec<u64>,
+    /// Those of the door.
+    pub shut: Vec<u64>,
 }
 
 impl Setting {
@@ -33,6 +35,7 @@ impl Setting {
                 report: List::new(alloc),
             },
             failing: Vec::new(alloc),
+            shut: Vec::new(alloc),
         }
     }
 
@@ -57,6 +60,16 @@ impl Setting {
         match call {
             Some(call) => {
                 self.failing.push(call)?;
+                Ok(true)
+            }
+            None => Ok(false),
+        }
+    }
+
+    fn shut(&mut self, call: Option<u64>) -> Result<bool, NoMemory> {
+        match call {
+            Some(call) => {
+                self.shut.push(call)?;
                 Ok(true)
             }
             None => Ok(false),
@@ -107,6 +120,7 @@ impl Setting {
                 None => Ok(false),
             },
             ("%fail", rest) => self.fail(number_of(rest)),
+            ("%shut", rest) => self.shut(number_of(rest)),
             ("bundle", rest) => Ok(self.answer_bundle(rest)),
             ("book", rest) => Ok(self.answer_book(rest)),
             ("run", rest) => self.answer_run(alloc, rest),
