@@ -1,9 +1,9 @@
-//! Conversations with the review desk, stored rows and files of users: tables of cases in `data/`, each with what is
-//! answered, worked out by hand.
+//! Conversations with the review desk, by its requests and over HTTP, stored rows and files of users: tables of cases in
+//! `data/`, each with what is answered, worked out by hand.
 //!
 //! Decides: how a case is written, and which of them are answered otherwise.
-//! Stands on: `desk_keeper` for a desk over a keeper in memory, `review_rules` and `stored_rows` for stored rows,
-//! `user_file` for users, `refusal_texts` for the words of refusals.
+//! Stands on: `desk_keeper` for a desk over a keeper in memory, `http_desk` and `doors` for conversations over HTTP,
+//! `review_rules` and `stored_rows` for stored rows, `user_file` for users, `refusal_texts` for the words of refusals.
 //! Promises: nothing of its own; it is a test, to which a case is added without a proof. It prints how many cases and
 //! answers a table has, and each answer that is another than the case says. Of the judge it is proved that it is one.
 //!
@@ -18,16 +18,24 @@
 //! `%rows` a first number, how many, and a row for each, with the number for `%`;
 //! `bundle`, `book`, `run` what the judge answers: `fine`; `many` and how many files; `toml`; `base` or `new` and how many
 //! files; `limit` and how many cases; `judged`, a missing property or `-`, and the report;
-//! `%fail` the number of a call of the keeper that fails, from 1;
+//! `%fail` the number of a call of the keeper that fails, from 1; `%shut` that of one of the door;
 //! `>` a request: token, key and command: `policy` with approvals and a text, `submit` with base, title and files, each a
 //! name, `=` and a text without blanks, `certify`, `approve`, `merge`, `withdraw` with a number; `"` is a title without
 //! bytes;
+//! `!` a conversation over HTTP: method, target, token and key, `-` for none of them, and a body, if there is one;
+//! `*` one by its bytes, with a remark; its bytes are those of the lines behind it: `:` a line with CR LF behind it, `.` a
+//! text, `byte` the number of one, `:=` a body, with its `content-length` and an empty line before it, and `times` how
+//! often, and one of these lines;
 //! `?` a question: `users`, what the file of users says; `restore`, whether the rows make a desk; `start`, whether the
 //! store does, which has to be the first, over rows that are valid or of which no table has two; `tables`, how many rows
 //! each table of the keeper has; `head`, the desk's; what its readers find, each as a row stands in a setting: `policy`
 //! with a version, `review` and `certificate` with a review, `kept` with a row, `file` and `approver` with a review and a
 //! position from 0, `merged` with a head;
-//! `=>` the answer to the request or question before it.
+//! `=>` the answer to the request, conversation or question before it: to a conversation code and body, with `text/plain`
+//! between them where that is its kind, if the reply is the whole one with these, byte by byte; else `only` and what was
+//! given, or `nothing`.
+//! A case with conversations is run twice, at last over a door that lends the one in memory only the first byte of each
+//! room; it has to answer the same. Where calls of the door fail it is run once, since so cut they are more.
 //! An empty line and one that begins with `#` are comments.
 #![tactic(auto)]
 
@@ -81,11 +89,21 @@ fn has_talks(case: &Case) -> bool {
 }
 
 // Prints each step that is answered otherwise where single bytes are lent.
-fn compare_lent(rt: &impl Print, case: &Case, whole: &[String], single: &[String]) -> io::Result<()> {
+fn compare_lent(
+    rt: &impl Print,
+    case: &Case,
+    whole: &[String],
+    single: &[String],
+) -> io::Result<()> {
     for (i, step) in case.steps.iter().enumerate() {
         let (whole, single) = (whole.get(i), single.get(i));
-        if let (Some(whole), Some(single)) = (whole, single) && whole.as_str() != single.as_str() {
-            println!(rt; "== {}, byte by byte\n{}\n=> {single}", case.name, step.asked)?;
+        if let (Some(whole), Some(single)) = (whole, single)
+            && whole.as_str() != single.as_str()
+        {
+            println!(rt;
+                "== {}, byte by byte\n{}\n=> {single}",
+                case.name, step.asked
+            )?;
         }
     }
     Ok(())

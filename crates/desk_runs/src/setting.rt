@@ -1,4 +1,4 @@
-//! The setting of a case: users, stored rows, the judge and the calls of the keeper that fail.
+//! The setting of a case: users, stored rows, the judge, and the calls of the keeper and of the door that fail.
 
 use crate::stored::{add_row, add_rows, cut_missing, no_rows};
 use crate::words::{Numbered, cut_number, cut_word, number_of};
@@ -56,26 +56,6 @@ impl Setting {
         Ok(true)
     }
 
-    fn fail(&mut self, call: Option<u64>) -> Result<bool, NoMemory> {
-        match call {
-            Some(call) => {
-                self.failing.push(call)?;
-                Ok(true)
-            }
-            None => Ok(false),
-        }
-    }
-
-    fn shut(&mut self, call: Option<u64>) -> Result<bool, NoMemory> {
-        match call {
-            Some(call) => {
-                self.shut.push(call)?;
-                Ok(true)
-            }
-            None => Ok(false),
-        }
-    }
-
     fn answer_bundle(&mut self, line: &str) -> bool {
         match cut_word(line) {
             ("fine", "") => self.judge.bundle = BundleAnswer::Fine,
@@ -119,13 +99,24 @@ impl Setting {
                 Some(asked) => add_rows(alloc, &mut self.rows, asked),
                 None => Ok(false),
             },
-            ("%fail", rest) => self.fail(number_of(rest)),
-            ("%shut", rest) => self.shut(number_of(rest)),
+            ("%fail", rest) => add_call(&mut self.failing, rest),
+            ("%shut", rest) => add_call(&mut self.shut, rest),
             ("bundle", rest) => Ok(self.answer_bundle(rest)),
             ("book", rest) => Ok(self.answer_book(rest)),
             ("run", rest) => self.answer_run(alloc, rest),
             _ => add_row(alloc, &mut self.rows, line),
         }
+    }
+}
+
+// Adds the number of a call that fails.
+fn add_call(calls: &mut Vec<u64>, number: &str) -> Result<bool, NoMemory> {
+    match number_of(number) {
+        Some(call) => {
+            calls.push(call)?;
+            Ok(true)
+        }
+        None => Ok(false),
     }
 }
 

@@ -71,12 +71,7 @@ fn add_once(alloc: Global, bytes: &mut Vec<u8>, line: &str) -> Result<bool, NoMe
 }
 
 // Adds so many times what a line says.
-fn add_times(
-    alloc: Global,
-    bytes: &mut Vec<u8>,
-    count: u64,
-    line: &str,
-) -> Result<bool, NoMemory> {
+fn add_times(alloc: Global, bytes: &mut Vec<u8>, count: u64, line: &str) -> Result<bool, NoMemory> {
     for _ in 0..count {
         if !add_once(alloc, bytes, line)? {
             return Ok(false);
@@ -101,8 +96,8 @@ pub fn is_talk(step: &Step) -> bool {
     word == "!" || word == "*"
 }
 
-/// The bytes of a conversation, if each of its lines is one of a conversation.
-pub fn input_of(alloc: Global, step: &Step) -> Result<Option<List<u8>>, NoMemory> {
+// The bytes of a conversation, if each of its lines is one of a conversation.
+fn input_of(alloc: Global, step: &Step) -> Result<Option<List<u8>>, NoMemory> {
     let mut bytes = Vec::new(alloc);
     if let ("!", words) = cut_word(step.asked.as_str()) {
         add_request(alloc, &mut bytes, words)?;
