@@ -65,13 +65,18 @@ use std::io::{self, ErrorKind};
 use std::thread::Threads;
 use talks::is_talk;
 
+// The answer to the step at this place.
+fn answer_at(answers: &[String], i: usize) -> &str {
+    match answers.get(i) {
+        Some(answer) => answer.as_str(),
+        None => "no answer",
+    }
+}
+
 // Prints each step of the case that is not answered as it says.
 fn compare(rt: &impl Print, case: &Case, answers: &[String]) -> io::Result<()> {
     for (i, step) in case.steps.iter().enumerate() {
-        let answer = match answers.get(i) {
-            Some(answer) => answer.as_str(),
-            None => "no answer",
-        };
+        let answer = answer_at(answers, i);
         if step.wanted.as_str() != answer {
             println!(rt; "== {}\n{}\n=> {answer}", case.name, step.asked)?;
         }
@@ -96,10 +101,8 @@ fn compare_lent(
     single: &[String],
 ) -> io::Result<()> {
     for (i, step) in case.steps.iter().enumerate() {
-        let (whole, single) = (whole.get(i), single.get(i));
-        if let (Some(whole), Some(single)) = (whole, single)
-            && whole.as_str() != single.as_str()
-        {
+        let single = answer_at(single, i);
+        if single != answer_at(whole, i) {
             println!(rt;
                 "== {}, byte by byte\n{}\n=> {single}",
                 case.name, step.asked
