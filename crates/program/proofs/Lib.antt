@@ -1,1 +1,3 @@
 pub mod DeskLemmas
+pub mod FoundLemmas
+pub mod MergeLemmas

@@ -2,3 +2,4 @@ pub mod Words
 pub mod Named
 pub mod DeskEnding
 pub mod DeskSteps
+pub mod Laws

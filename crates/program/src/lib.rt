@@ -8,8 +8,10 @@
 #![tactic(auto)]
 
 mod desk;
+mod laws;
 mod runs;
 mod words;
 
 pub use commands::Status;
+pub use laws::law_of_merged_reviews;
 pub use runs::run;

@@ -1,0 +1,35 @@
+-- What is true of the desk with the judge of the program.
+use Rattle.std.specs.Prelude.{ℕ, ◌≡◌, List as Seq, [], Ok, All}
+use Rattle.net_types.specs.NetValue.{NetValue}
+use Rattle.bundle_reader.specs.Bundle as Bundle
+use Rattle.property_book.specs.Book as Book
+use Rattle.property_book.specs.Meaning.{Holds}
+use Rattle.property_book.specs.declared.property.Property.{Property}
+use Rattle.desk_tables.specs.Tables.{book_of}
+use Rattle.desk_tables.specs.declared.rows.Rows.{Rows}
+use Rattle.review_rules.specs.State.{State}
+use Rattle.review_rules.specs.Judging.{bundle_of, judged}
+use Rattle.review_rules.specs.Laws.{IsAccepted}
+use Rattle.review_rules.specs.declared.requests.Request.{Request}
+use Rattle.review_rules.specs.declared.requests.Command.TheVariants.{Merge}
+use Rattle.desk_judge.specs.Judged.{meant}
+use Rattle.serving.specs.Turns.{Comes}
+
+-- the tables of a desk that took no request yet
+abbrev pub no_rows : Rows
+no_rows = record { policies = []; reviews = []; files = []; approvals = []; certificates = []; kept = [] }
+
+-- the files of the review are a network, the policy's present text is a book, and each of its properties holds in that
+-- network
+abbrev pub BookHolds : Rows → ℕ → Type 0
+BookHolds t id =
+    (net : NetValue) × (book : Seq Property) × (Bundle.bundle_of (bundle_of t id) ≡ Ok net) × (Book.book_of (book_of t) ≡ Ok book) × All (Holds net) book
+
+-- what was merged holds: where accepted requests led from empty tables to others, and a merge is accepted there, the book
+-- of the policy that is current then holds in the network of the review's files
+abbrev pub MergedReviewsHold : Type 0
+MergedReviewsHold =
+    (s now : State) (r : Request) (id : ℕ) →
+    s.tables ≡ no_rows → Comes meant s now →
+    r.command ≡ Merge id → IsAccepted (judged meant now r) →
+    BookHolds now.tables id

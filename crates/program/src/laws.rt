@@ -1,0 +1,10 @@
+//! What is true of the desk: the law is the contract of a function that does nothing.
+
+ghost use Rattle.program.specs.Laws.{MergedReviewsHold};
+
+/// What was merged holds. Where a merge is accepted at a desk that began with empty tables, each property of the book of
+/// the policy's version of then holds in the network of the review's files: whatever permitted set of links fails, in
+/// every stable labelling.
+pub fn law_of_merged_reviews()
+    ensures { MergedReviewsHold }
+{}
