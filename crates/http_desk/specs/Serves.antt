@@ -1,9 +1,9 @@
 -- One conversation, served whole.
-use Rattle.std.specs.Prelude.{◌≡◌, ℕ, ◌<◌, ◌⊎◌, List, [], ◌∷◌, ◌++◌, Option, None, Some, length, take}
+use Rattle.std.specs.Prelude.{◌≡◌, ℕ, ◌<◌, ◌⊎◌, List, [], ◌∷◌, ◌++◌, Option, None, Some, Ok, length, take}
 use Rattle.outside.specs.Faults.{Rose}
 use Rattle.doors.specs.Door.{Told, left_of, past, giving}
 use Rattle.review_rules.specs.State.{State}
-use Rattle.review_rules.specs.Rules.{Accepted}
+use Rattle.review_rules.specs.Rules.{Accepted, Repeated}
 use Rattle.review_rules.specs.Judging.{IsRequest, Judging, judged}
 use Rattle.review_rules.specs.declared.requests.Request.{Request}
 use Rattle.desk_tables.specs.declared.rows.Rows.{Rows}
@@ -11,7 +11,9 @@ use Rattle.desk_replies.specs.declared.giving.Media.TheVariants.{Json}
 use Rattle.desk_replies.specs.Replies.{reply_text, store_body, memory_body}
 use Rattle.http_desk.specs.declared.serving.Served.{Served}
 use Rattle.http_desk.specs.declared.serving.Served.TheVariants.{Replied, DoorFault}
-use Rattle.http_desk.specs.Answer.{Answered, Answer, AnswersNew}
+use Rattle.desk_requests.specs.Asks.{Asks}
+use Rattle.desk_requests.specs.declared.requests.Asked.TheVariants.{Command as AskedCommand}
+use Rattle.http_desk.specs.Answer.{Answered, Answer, AnswersNew, told}
 
 -- the bytes of a reply
 abbrev pub text_of : Answered → List ℕ
@@ -84,3 +86,9 @@ abbrev pub CutsDontMatter : Type 0
 CutsDontMatter =
     (j : Judging) (s : State) (input : List ℕ) (before now before' now' : ℕ) (a b : Answered)
     → IsReply j s input before now a → IsReply j s input before' now' b → (IsWant a.code ⊎ IsWant b.code) ⊎ (a ≡ b)
+
+-- a command that was accepted before under this key is answered as it was then, and the state is as before
+abbrev pub RepeatsActOnce : Type 0
+RepeatsActOnce =
+    (j : Judging) (s : State) (input : List ℕ) (request : Request) (reply : List ℕ) (answer : Answered)
+    → Asks input (Ok (AskedCommand request)) → judged j s request ≡ Repeated reply → Answer j s input answer → answer ≡ told s Json reply

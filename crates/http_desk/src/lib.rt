@@ -12,5 +12,5 @@ mod laws;
 mod ruling;
 mod serving;
 
-pub use laws::{law_of_cuts, law_of_one_answer};
+pub use laws::{law_of_cuts, law_of_one_answer, law_of_repeats};
 pub use serving::{Served, serve_one};
