@@ -4,9 +4,9 @@
 #   examples/run-all.sh [PROGRAM]
 #
 # An example is a block of a page: a line `$ ./route-desk WORDS`, the lines that it prints, a line `$ echo $?`, and its
-# status. The pages are README.md in each folder of examples/, and docs/PIPELINE.md. For each example one line is printed;
-# where something else came out, it is told on standard error, and the status is 1. PROGRAM runs in the place of
-# ./route-desk, with the top of the repository as its folder.
+# status. The pages are README.md in each folder of examples/, and docs/PIPELINE.md; the walk through the desk is one more.
+# For each example one line is printed; where something else came out, it is told on standard error, and the status is 1.
+# PROGRAM runs in the place of ./route-desk, with the top of the repository as its folder.
 set -u
 top=$(dirname -- "$(dirname -- "$(readlink -f -- "${BASH_SOURCE[0]}")")")
 cd -- "$top" || exit 1
@@ -59,7 +59,27 @@ run_page() {
     fi
 }
 
+# Plays the walk through the desk, where curl is there: what is printed before the tables has to be as the page shows.
+run_walk() {
+    local page=examples/desk/README.md wanted printed
+    if ! type curl >/dev/null 2>&1; then
+        printf 'not run, without curl: %s\n' "$page"
+        return
+    fi
+    run=$((run + 1))
+    wanted=$(awk '/^\$ examples\/desk\/walk-through.sh$/ { on = 1; next } /^\$ echo/ { on = 0 } on' "$page")
+    printed=$(examples/desk/walk-through.sh "$program" 2>/dev/null | sed '/^the desk ended/q')
+    if [ "$printed" = "$wanted" ]; then
+        printf 'as shown: %s\n' "$page"
+        return
+    fi
+    differing=$((differing + 1))
+    printf 'DIFFERS: %s\n' "$page"
+    diff <(printf '%s\n' "$wanted") <(printf '%s\n' "$printed") >&2
+}
+
 for page in examples/*/README.md docs/PIPELINE.md; do
     run_page "$page"
 done
+run_walk
 [ "$run" -gt 0 ] && [ "$differing" -eq 0 ]

@@ -14,7 +14,7 @@ desk=
 trap 'if [ -n "$desk" ]; then kill "$desk" 2>/dev/null; fi; rm -rf -- "$work"' EXIT
 
 # How many conversations the desk serves: each ask below is one.
-"$program" serve "$work/desk.db" "$port" 9 "$here/users.toml" &
+"$program" serve "$work/desk.db" "$port" 9 "$here/users.toml" >"$work/printed" &
 desk=$!
 
 # Asks with the method $1, the path $2 and the token $3, and further words for curl, and prints the reply.
@@ -45,6 +45,7 @@ ask GET /head token-of-bea
 wait "$desk"
 status=$?
 desk=
+cat -- "$work/printed"
 printf 'the desk ended with status %s\n' "$status"
 if type sqlite3 >/dev/null 2>&1; then
     sqlite3 "$work/desk.db" 'select id, author, title, base, state, head from review' \
