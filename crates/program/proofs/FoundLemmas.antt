@@ -1,6 +1,6 @@
 -- Along accepted requests, each certificate of the policy's present version says what the judge found of its review's files
 -- under the policy's book.
-use Rattle.std.proofs.Common.{◌≡◌, ℕ, ◌+◌, ◌<◌, ◌≤◌, Bool, true, false, List, [], ◌∷◌, ◌++◌, length, map, find, filter, ◌==◌, if◌then◌else◌, unwrap_or, Option, Some, None, refl, sym, ap, ◌∙◌, subst, arith, length-append}
+use Rattle.std.proofs.Common.{◌≡◌, ℕ, ◌+◌, ◌<◌, Bool, true, false, List, [], ◌∷◌, ◌++◌, length, map, find, filter, ◌==◌, if◌then◌else◌, Option, Some, None, refl, sym, ap, ◌∙◌, subst, arith, length-append}
 use Rattle.std.specs.List.{All}
 use Rattle.std.specs.Ordering.{nat_cmp}
 use Rattle.std.proofs.lemmas.Bool.Decides.{nat_tests}
@@ -161,7 +161,13 @@ answer_names j s r well = by_ask (judged_command j s.tables r.command) (ask_of s
     by_ask a Run names = names
     by_ask a Book names = names
 
+next_valid : (j : Judging) (s : State) (r : Request) → IsJudging j → IsValid s.tables → IsRequest r → IsValid (next j s r).tables
+next_valid j s r well v is = tables_stay_valid s r (answer_of j s r) v is (answer_names j s r well)
+
+pub valid_run : (j : Judging) (s : State) (requests : List Request) → IsJudging j → IsValid s.tables → AreAccepted j s requests → IsValid (run j s requests).tables
+valid_run j s [] well v all = v
+valid_run j s (r ∷ rs) well v all = valid_run j (next j s r) rs well (next_valid j s r well v all.0) all.2
+
 pub judged_run : (j : Judging) (s : State) (requests : List Request) → IsJudging j → IsValid s.tables → AreJudged j s.tables → AreAccepted j s requests → AreJudged j (run j s requests).tables
 judged_run j s [] well v sound all = sound
-judged_run j s (r ∷ rs) well v sound all =
-    judged_run j (next j s r) rs well (tables_stay_valid s r (answer_of j s r) v all.0 (answer_names j s r well)) (judged_next j s r v all.1 sound) all.2
+judged_run j s (r ∷ rs) well v sound all = judged_run j (next j s r) rs well (next_valid j s r well v all.0) (judged_next j s r v all.1 sound) all.2

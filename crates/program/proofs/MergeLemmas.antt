@@ -1,5 +1,5 @@
 -- What was merged holds.
-use Rattle.std.proofs.Common.{◌≡◌, ℕ, ◌≤◌, List, [], ◌==◌, true, Option, Some, None, refl, sym, ap, ◌∙◌, subst, arith}
+use Rattle.std.proofs.Common.{◌≡◌, ℕ, List, [], ◌∷◌, ◌==◌, true, Option, None, refl, sym, ap, ◌∙◌, subst, arith}
 use Rattle.std.specs.Prelude.{Result, Ok, Err}
 use Rattle.std.proofs.lemmas.Bool.Decides.{nat_tests}
 use Rattle.std.proofs.lemmas.List.Elements.{All-nil}
@@ -9,6 +9,7 @@ use Rattle.desk_tables.specs.Valid.{IsCertificate, IsFile, IsKept, IsPolicy, IsR
 use Rattle.desk_tables.specs.declared.rows.ApprovalRow.{ApprovalRow}
 use Rattle.desk_tables.specs.declared.rows.CertificateRow.{CertificateRow}
 use Rattle.desk_tables.specs.declared.rows.Rows.{Rows}
+use Rattle.desk_tables.specs.declared.rows.User.{User}
 use Rattle.judging.specs.declared.inputs.Inputs.{Inputs}
 use Rattle.judging.specs.declared.refusals.JudgeRefusal.{JudgeRefusal}
 use Rattle.judging.specs.declared.refusals.JudgeRefusal.TheVariants as Cause
@@ -17,17 +18,14 @@ use Rattle.judging.specs.Steps.{and_then}
 use Rattle.review_rules.specs.State.{State}
 use Rattle.review_rules.specs.Rules.{missing_of, over_cases, refused_book, refused_bundle, report_of}
 use Rattle.review_rules.specs.Judging.{answer_of, bundle_of}
-use Rattle.review_rules.specs.Laws.{IsAccepted}
-use Rattle.review_rules.specs.declared.requests.Command.TheVariants.{Merge}
 use Rattle.review_rules.specs.declared.requests.JudgeAnswer.{JudgeAnswer}
 use Rattle.review_rules.specs.declared.requests.JudgeAnswer.TheVariants.{Judged}
-use Rattle.review_rules.specs.declared.requests.Request.{Request}
 use Rattle.review_rules.proofs.AcceptLemmas.{merges_are_sound}
 use Rattle.desk_judge.specs.Judged.{found, meant, run_answer, settled}
 use Rattle.desk_judge.proofs.RunLemmas.{judged_runs_hold, means_no_more}
 use Rattle.serving.specs.Turns.{Comes}
-use Rattle.program.specs.Laws.{BookHolds, MergedReviewsHold, no_rows}
-use Rattle.program.proofs.FoundLemmas.{AreJudged, IsFound, IsJudged, find_has, judged_run}
+use Rattle.program.specs.Laws.{BookHolds, Led, MergedReviewsHold, no_rows}
+use Rattle.program.proofs.FoundLemmas.{AreJudged, IsFound, IsJudged, find_has, judged_run, valid_run}
 
 -- a run that is not refused is judged
 record IsSettled (a : JudgeAnswer) (missing : Option ℕ) : Type 0 where
@@ -77,10 +75,20 @@ none_valid = record {
   kept = All-nil (IsKept 0 0);
 }
 
-comes_judged : (s now : State) → s.tables ≡ no_rows → Comes meant s now → AreJudged meant now.tables
-comes_judged s now empty (requests, all, to) =
-    subst (λ (x : State). AreJudged meant x.tables) (sym to)
-    (judged_run meant s requests means_no_more (subst IsValid (sym empty) none_valid) (subst (AreJudged meant) (sym empty) (All-nil (IsJudged meant no_rows))) all)
+-- the tables that a desk, and desks one after the other, lead to
+comes_valid : (s now : State) → IsValid s.tables → Comes meant s now → IsValid now.tables
+comes_valid s now v (requests, all, to) = subst (λ (x : State). IsValid x.tables) (sym to) (valid_run meant s requests means_no_more v all)
+
+comes_judged : (s now : State) → IsValid s.tables → AreJudged meant s.tables → Comes meant s now → AreJudged meant now.tables
+comes_judged s now v sound (requests, all, to) = subst (λ (x : State). AreJudged meant x.tables) (sym to) (judged_run meant s requests means_no_more v sound all)
+
+led_judged : (t now : Rows) (desks : List (List User)) → IsValid t → AreJudged meant t → Led t desks now → AreJudged meant now
+led_judged t now [] v sound same = subst (AreJudged meant) (sym same) sound
+led_judged t now (users ∷ later) v sound (left, comes, rest) =
+    led_judged left.tables now later
+    (comes_valid (record { users = users; tables = t }) left v comes)
+    (comes_judged (record { users = users; tables = t }) left v sound comes)
+    rest
 
 -- the certificate of a review says what was found of it
 certificate_found : (t : Rows) (id : ℕ) (c : CertificateRow) → c.policy ≡ version_of t → c.missing ≡ None → (c.review == id) ≡ true → IsJudged meant t c → IsFound meant (bundle_of t id) (book_of t) None
@@ -90,7 +98,8 @@ certificate_found t id c version complete here h =
     (subst (λ (n : ℕ). IsFound meant (bundle_of t n) (book_of t) c.missing) same (h version))
 
 pub merged_reviews_hold : MergedReviewsHold
-merged_reviews_hold s now r id empty comes merge ok =
+merged_reviews_hold desks now r id led merge ok =
     let m = (merges_are_sound now r (answer_of meant now r) id merge).0 ok in
-    let there = find_has (λ (c : CertificateRow). c.review == id) (IsJudged meant now.tables) m.certificate now.tables.certificates m.certified (comes_judged s now empty comes) in
+    let there = find_has (λ (c : CertificateRow). c.review == id) (IsJudged meant now.tables) m.certificate now.tables.certificates m.certified
+    (led_judged no_rows now.tables desks none_valid (All-nil (IsJudged meant no_rows)) led) in
     found_holds now.tables id (certificate_found now.tables id m.certificate m.version m.complete there.0 there.1)

@@ -4,7 +4,8 @@
 //! is written when it ends.
 //! Stands on: `commands` for the other commands, `user_file` for the users, `desk_keeper` for the tables, `desk_judge`
 //! for what the desk asks, `serving` for the conversations.
-//! Promises: the clauses of `run`. Not: anything of real files, sockets and databases but the causes of the statuses.
+//! Promises: the clauses of `run`, and that what was merged holds (`specs/Laws.antt`). Not: anything of real files, sockets
+//! and databases but the causes of the statuses.
 #![tactic(auto)]
 
 mod desk;
