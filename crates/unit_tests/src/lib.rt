@@ -31,4 +31,6 @@ mod shelves;
 #[cfg(test)]
 mod texts;
 #[cfg(test)]
+mod turns;
+#[cfg(test)]
 mod words;
