@@ -1,0 +1,108 @@
+#!/usr/bin/env bash
+# Copies the scripts out of docs/PIPELINE.md and runs them as they stand: the git hook and the CI job. What is printed is
+# held to what the page shows.
+#
+#   examples/run-scripts.sh [PROGRAM]
+#
+# In the page a comment `script NAME` stands before a script, and `shown NAME` before a block that shows what is printed.
+# What is needed is git. For each thing tried one line is printed; what differs is told on standard error, and the status
+# is 1. PROGRAM runs in the place of ./route-desk, with the top of the repository as its folder.
+set -u
+top=$(dirname -- "$(dirname -- "$(readlink -f -- "${BASH_SOURCE[0]}")")")
+cd -- "$top" || exit 1
+program=$(readlink -f -- "${1-./route-desk}")
+page=$top/docs/PIPELINE.md
+differing=0
+work=$(mktemp -d) || exit 1
+trap 'rm -rf -- "$work"' EXIT
+
+# Git as it is where nobody has set anything.
+export HOME=$work GIT_CONFIG_NOSYSTEM=1 GIT_CONFIG_GLOBAL=/dev/null
+export GIT_AUTHOR_NAME=a GIT_AUTHOR_EMAIL=a@network.example GIT_COMMITTER_NAME=a GIT_COMMITTER_EMAIL=a@network.example
+unset GIT_DIR GIT_WORK_TREE GIT_INDEX_FILE
+
+# Prints the block of the page behind the comment `$1`.
+block() {
+    awk -v mark="<!-- $1 -->" '
+        $0 == mark { found = 1; next }
+        found && /^```/ { if (on) exit; on = 1; next }
+        on' "$page"
+}
+
+# Says how `$1` came out: as it should where the texts $2, wanted, and $3, printed, are one.
+compare() {
+    if [ -n "$2" ] && [ "$2" = "$3" ]; then
+        printf 'as shown: docs/PIPELINE.md: %s\n' "$1"
+        return
+    fi
+    differing=$((differing + 1))
+    printf 'DIFFERS: docs/PIPELINE.md: %s\n' "$1"
+    diff <(printf '%s\n' "$2") <(printf '%s\n' "$3") >&2
+}
+
+# What a push prints, without what is another each time: the server's path, the commits, blanks at the ends of lines.
+leveled() {
+    sed -E -e 's/[[:space:]]+$//' -e 's/^To .*/To SERVER/' -e "s/'.*'\$/SERVER/" -e 's/[0-9a-f]{7,}\.\.[0-9a-f]{7,}/OLD..NEW/'
+}
+
+# Commits the state of the clone with the configurations of the folder $1.
+commit_net() {
+    rm -rf "$work/clone/net" && cp -R "$1" "$work/clone/net" && git -C "$work/clone" add -A &&
+        git -C "$work/clone" commit -q -m change
+}
+
+# Pushes, and compares with the block `$1`.
+push() {
+    compare "$1" "$(block "shown $1" | sed 1d | leveled)" "$(git -C "$work/clone" push origin main 2>&1 | leveled)"
+}
+
+run_hook() {
+    local hooks=$work/network.git/hooks
+    git init -q --bare -b main "$work/network.git" && git clone -q "$work/network.git" "$work/clone" 2>/dev/null
+    git -C "$work/clone" checkout -q -B main
+    cp -- "$shipped" "$hooks/route-desk"
+    block 'script pre-receive' >"$hooks/pre-receive" && chmod +x "$hooks/pre-receive"
+    mkdir "$work/clone/properties" && cp examples/fabric/properties.toml "$work/clone/properties/fabric.toml"
+    commit_net examples/fabric/new
+    compare 'the first push is taken' 0 "$(git -C "$work/clone" push -q origin main >/dev/null 2>&1; echo $?)"
+    commit_net examples/refused-change/new
+    push push-refused
+    # The attribute would keep the file out of an archive.
+    echo 'net/spine2.conf export-ignore' >"$work/clone/.gitattributes"
+    commit_net examples/refused-change/new
+    push push-refused
+    rm "$work/clone/.gitattributes"
+    commit_net examples/refused-change/mended
+    mv "$work/clone/net/spine2.conf" "$work/clone/elsewhere" && ln -s ../elsewhere "$work/clone/net/spine2.conf"
+    git -C "$work/clone" add -A && git -C "$work/clone" commit -q -m link
+    push push-link
+    rm "$work/clone/elsewhere"
+    git -C "$work/clone" reset -q --hard origin/main
+    git -C "$work/clone" clean -qfd
+    commit_net examples/refused-change/mended
+    push push-taken
+}
+
+# Runs the CI job on a branch with the configurations of $1, and compares its status with $2.
+run_job() {
+    git -C "$work/clone" checkout -q -B change "$first" && commit_net "$1"
+    compare "the CI job on $1 ends with $2" "$2" \
+        "$(cd "$work/clone" && TARGET=before ROUTE_DESK=$shipped sh "$work/ci-job" >/dev/null 2>&1; echo $?)"
+}
+
+if ! type git >/dev/null 2>&1; then
+    echo 'not run, without git: the scripts of docs/PIPELINE.md'
+    exit 0
+fi
+# The file that ./route-desk starts, as it is copied beside a hook.
+shipped=$program
+if [ "$program" -ef route-desk ]; then
+    mkdir "$work/bin" && ./route-desk --install "$work/bin" 2>/dev/null && shipped=$work/bin/route-desk
+fi
+run_hook
+block 'script ci-job' >"$work/ci-job"
+first=$(git -C "$work/clone" rev-list --max-parents=0 HEAD)
+git -C "$work/network.git" branch before "$first"
+run_job examples/refused-change/new 1
+run_job examples/refused-change/mended 0
+[ "$differing" -eq 0 ]
