@@ -1,11 +1,12 @@
 #!/usr/bin/env bash
-# Copies the scripts out of docs/PIPELINE.md and runs them as they stand: the git hook and the CI job. What is printed is
-# held to what the page shows.
+# Copies the scripts out of docs/PIPELINE.md and runs them as they stand: the git hook, the CI job, and what a pipeline does
+# with the desk. What is printed is held to what the page shows.
 #
 #   examples/run-scripts.sh [PROGRAM]
 #
-# In the page a comment `script NAME` stands before a script, and `shown NAME` before a block that shows what is printed.
-# What is needed is git. For each thing tried one line is printed; what differs is told on standard error, and the status
+# In the page a comment `script NAME` stands before a script, `shown NAME` before a block that shows what is printed, and
+# `session NAME` before one with commands behind `$ ` and what each prints. What is needed is git, and for the desk curl
+# and python3; what cannot be run is passed over. For each thing tried one line is printed; what differs is told on standard error, and the status
 # is 1. PROGRAM runs in the place of ./route-desk, with the top of the repository as its folder.
 set -u
 top=$(dirname -- "$(dirname -- "$(readlink -f -- "${BASH_SOURCE[0]}")")")
@@ -14,7 +15,8 @@ program=$(readlink -f -- "${1-./route-desk}")
 page=$top/docs/PIPELINE.md
 differing=0
 work=$(mktemp -d) || exit 1
-trap 'rm -rf -- "$work"' EXIT
+supervisor=
+trap 'stop_desk; rm -rf -- "$work"' EXIT
 
 # Git as it is where nobody has set anything.
 export HOME=$work GIT_CONFIG_NOSYSTEM=1 GIT_CONFIG_GLOBAL=/dev/null
@@ -90,19 +92,80 @@ run_job() {
         "$(cd "$work/clone" && TARGET=before ROUTE_DESK=$shipped sh "$work/ci-job" >/dev/null 2>&1; echo $?)"
 }
 
-if ! type git >/dev/null 2>&1; then
-    echo 'not run, without git: the scripts of docs/PIPELINE.md'
-    exit 0
-fi
+# Prints the session `$1` of the page, with what its commands print now in the place of what is shown.
+play() {
+    local line
+    while IFS= read -r line <&3; do
+        [[ $line == '$ '* ]] || continue
+        printf '%s\n' "$line"
+        eval "${line#'$ '}" 2>&1
+    done 3< <(block "session $1")
+}
+
+# Serves 5 conversations at a time, and is begun anew after them, as a service is.
+supervise() {
+    local desk
+    trap 'kill "$desk" 2>/dev/null; wait "$desk"; exit' TERM
+    while :; do
+        "$shipped" serve "$work/desk/desk.db" "$port" 5 examples/desk/users.toml >/dev/null 2>&1 &
+        desk=$!
+        wait "$desk"
+    done
+}
+
+stop_desk() {
+    [ -n "$supervisor" ] || return 0
+    kill "$supervisor" && wait "$supervisor"
+    supervisor=
+}
+
+# Plays the session `$1` in the folder of the desk.
+run_session() {
+    compare "the session $1" "$(block "session $1")" "$(cd "$work/desk" && play "$1")"
+}
+
+run_desk() {
+    local port=$((20000 + $$ % 10000))
+    DESK=http://127.0.0.1:$port
+    mkdir "$work/desk" && ln -s "$top/examples" "$work/desk/examples"
+    block 'script route-review' >"$work/desk/route-review" && chmod +x "$work/desk/route-review"
+    supervise &
+    supervisor=$!
+    run_session desk
+    stop_desk
+    if type sqlite3 >/dev/null 2>&1; then
+        run_session tables
+    else
+        echo 'not run, without sqlite3: the tables of the desk in docs/PIPELINE.md'
+    fi
+}
+
+# Whether the tools after the first word are there; where one is not, says that the first is not run.
+has() {
+    local what=$1 tool
+    shift
+    for tool; do
+        if ! type "$tool" >/dev/null 2>&1; then
+            printf 'not run, without %s: docs/PIPELINE.md: %s\n' "$tool" "$what"
+            return 1
+        fi
+    done
+}
+
 # The file that ./route-desk starts, as it is copied beside a hook.
 shipped=$program
 if [ "$program" -ef route-desk ]; then
     mkdir "$work/bin" && ./route-desk --install "$work/bin" 2>/dev/null && shipped=$work/bin/route-desk
 fi
-run_hook
-block 'script ci-job' >"$work/ci-job"
-first=$(git -C "$work/clone" rev-list --max-parents=0 HEAD)
-git -C "$work/network.git" branch before "$first"
-run_job examples/refused-change/new 1
-run_job examples/refused-change/mended 0
+if has 'the hook and the job' git; then
+    run_hook
+    block 'script ci-job' >"$work/ci-job"
+    first=$(git -C "$work/clone" rev-list --max-parents=0 HEAD)
+    git -C "$work/network.git" branch before "$first"
+    run_job examples/refused-change/new 1
+    run_job examples/refused-change/mended 0
+fi
+if has 'the desk' curl python3 sha256sum; then
+    run_desk
+fi
 [ "$differing" -eq 0 ]
