@@ -4,8 +4,8 @@
 #   examples/run-all.sh [PROGRAM]
 #
 # An example is a block of a page: a line `$ ./route-desk WORDS`, the lines that it prints, a line `$ echo $?`, and its
-# status. The pages are README.md in each folder of examples/, and docs/PIPELINE.md; the walk through the desk is one more.
-# The scripts of docs/PIPELINE.md are run by examples/run-scripts.sh, and so from here.
+# status. The pages are README.md in each folder of examples/, docs/PIPELINE.md and docs/REPORT.md; the walk through the desk
+# is one more. The scripts of docs/PIPELINE.md are run by examples/run-scripts.sh, and so from here.
 # For each example one line is printed; where something else came out, it is told on standard error, and the status is 1.
 # PROGRAM runs in the place of ./route-desk, with the top of the repository as its folder.
 set -u
@@ -79,7 +79,7 @@ run_walk() {
     diff <(printf '%s\n' "$wanted") <(printf '%s\n' "$printed") >&2
 }
 
-for page in examples/*/README.md docs/PIPELINE.md; do
+for page in examples/*/README.md docs/PIPELINE.md docs/REPORT.md; do
     run_page "$page"
 done
 run_walk
