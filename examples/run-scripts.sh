@@ -102,12 +102,12 @@ play() {
     done 3< <(block "session $1")
 }
 
-# Serves 12 conversations at a time, and is begun anew after them, as a service is.
+# Serves 20 conversations at a time, and is begun anew after them, as a service is.
 supervise() {
     local desk
     trap 'kill "$desk" 2>/dev/null; wait "$desk"; exit' TERM
     while :; do
-        "$shipped" serve "$work/desk/desk.db" "$port" 12 examples/desk/users.toml >/dev/null 2>&1 &
+        "$shipped" serve "$work/desk/desk.db" "$port" 20 examples/desk/users.toml >/dev/null 2>&1 &
         desk=$!
         wait "$desk"
     done
