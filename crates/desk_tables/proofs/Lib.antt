@@ -1,3 +1,4 @@
 pub mod TableLemmas
 pub mod PutLemmas
 pub mod PlaceLemmas
+pub mod KeptLemmas

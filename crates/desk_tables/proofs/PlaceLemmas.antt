@@ -9,13 +9,12 @@ use Rattle.std.specs.Cmp.{IsTotalOrder}
 use Rattle.std.proofs.lemmas.Bool.Decides.{nat_tests}
 use Rattle.std.proofs.lemmas.Cmp.{nat_cmp_total, ranked, tied_back, alike_right}
 use Rattle.std.proofs.lemmas.List.Folds.{list_all-append}
-use Rattle.desk_tables.specs.Order.{before, after, Ascends, Counts, put, texts_cmp, numbered_cmp, Splits, passing}
-use Rattle.desk_tables.specs.Tables.{kept_key, approval_key, certificate_key, at_review}
+use Rattle.desk_tables.specs.Order.{before, after, Ascends, Counts, put, numbered_cmp, Splits, passing}
+use Rattle.desk_tables.specs.Tables.{approval_key, certificate_key, at_review}
 use Rattle.desk_tables.specs.declared.rows.ReviewRow.{ReviewRow}
 use Rattle.desk_tables.specs.declared.rows.ApprovalRow.{ApprovalRow}
 use Rattle.desk_tables.specs.declared.rows.CertificateRow.{CertificateRow}
-use Rattle.desk_tables.specs.declared.rows.KeptRow.{KeptRow}
-use Rattle.desk_tables.proofs.TableLemmas.{and_true, all_at, any_find, find_split, numbered_total, numbered_tie, numbers_tie, texts_total, texts_tie}
+use Rattle.desk_tables.proofs.TableLemmas.{and_true, all_at, any_find, find_split, numbered_total, numbered_tie, numbers_tie}
 use Rattle.desk_tables.proofs.PutLemmas.{all_then, filter_none}
 
 -- an approval that is not there is not found
@@ -46,9 +45,6 @@ after_rest {X = X} cmp key k same o eq (x ∷ xs) none = by_case (cmp (key x) k)
 -- a new row inserted where the rows before its key end is put in its place
 pub put_at : {X K : Type 0} (cmp : K → K → Ordering) (key : X → K) (row : X) (same : X → Bool) → IsTotalOrder cmp → ((x : X) → is_eq (cmp (key x) (key row)) ≡ same x) → (xs : List X) (i : ℕ) → Splits (before cmp key (key row)) xs i → find same xs ≡ None → insert xs i row ≡ put cmp key row xs
 put_at cmp key row same o eq xs i split none = insert_parts xs i row split.within ∙ rw (split.front, split.back, after_rest cmp key (key row) same o eq xs none) refl
-
-pub put_kept_at : (row : KeptRow) (xs : List KeptRow) (i : ℕ) → Splits (before texts_cmp kept_key (row.user, row.key)) xs i → find (λ (k : KeptRow). bytes_eq k.user row.user && bytes_eq k.key row.key) xs ≡ None → insert xs i row ≡ put texts_cmp kept_key row xs
-put_kept_at row xs i split none = put_at texts_cmp kept_key row (λ (k : KeptRow). bytes_eq k.user row.user && bytes_eq k.key row.key) texts_total (λ k. texts_tie (kept_key k) (kept_key row)) xs i split none
 
 pub put_approval_at : (row : ApprovalRow) (xs : List ApprovalRow) (i : ℕ) → Splits (before numbered_cmp approval_key (row.review, row.user)) xs i → list_any (λ (a : ApprovalRow). a.review == row.review && bytes_eq a.user row.user) xs ≡ false → insert xs i row ≡ put numbered_cmp approval_key row xs
 put_approval_at row xs i split none = put_at numbered_cmp approval_key row (λ (a : ApprovalRow). a.review == row.review && bytes_eq a.user row.user) numbered_total (λ a. numbered_tie (approval_key a) (approval_key row)) xs i split (none_found (λ (a : ApprovalRow). a.review == row.review && bytes_eq a.user row.user) xs none)

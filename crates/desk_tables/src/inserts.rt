@@ -1,16 +1,16 @@
 //! Rows put into tables that are in key order, where there is room.
 
-ghost use Rattle.std.specs.Prelude.{◌≡◌, ◌+◌, ◌++◌, ◌∷◌, [], ◌≤◌, ◌<◌, ◌&&◌, ◌==◌, IfOk, None, true, false, slice_index_or, slice_get, find, length, map, vec_len, vec_capacity};
+ghost use Rattle.std.specs.Prelude.{◌≡◌, ◌+◌, ◌++◌, ◌∷◌, [], ◌≤◌, ◌<◌, ◌&&◌, ◌==◌, IfOk, None, true, false, slice_index_or, slice_get, length, map, vec_len, vec_capacity};
 ghost use Rattle.std.specs.Str.{bytes_eq};
 ghost use Rattle.std.specs.List.{list_any, insert};
 ghost use Rattle.std.specs.Ordering.{nat_cmp};
-ghost use Rattle.desk_tables.specs.Order.{put, passing, Ascends, Counts, texts_cmp, numbered_cmp};
-ghost use Rattle.desk_tables.specs.Tables.{kept_key, approval_key, certificate_key, file_row, source_of, at_review, merged, withdrawn};
+ghost use Rattle.desk_tables.specs.Order.{put, passing, Ascends, Counts, numbered_cmp};
+ghost use Rattle.desk_tables.specs.Tables.{approval_key, certificate_key, file_row, source_of, at_review, merged, withdrawn};
 ghost use Rattle.desk_tables.specs.Valid.{IsUpTo};
 ghost use Rattle.desk_tables.specs.declared.rows.CertificateRow.{CertificateRow};
 
-use crate::places::{approval_place, certificate_place, kept_place};
-use crate::{ApprovalRow, CertificateRow, FileRow, KeptRow, PolicyRow, ReviewRow};
+use crate::places::{approval_place, certificate_place};
+use crate::{ApprovalRow, CertificateRow, FileRow, PolicyRow, ReviewRow};
 use net_types::{List, NoMemory, SourceFile, Text};
 use std::alloc::Global;
 
@@ -94,18 +94,6 @@ pub fn add_approval(rows: &mut Vec<ApprovalRow>, row: ApprovalRow)
     ensures { rows.new.items ≡ put numbered_cmp approval_key row rows.old.items }
 {
     let place = approval_place(rows.as_slice(), row.review, row.user.as_bytes());
-    let added = rows.insert(place, row);
-    prove!(added.is_ok());
-}
-
-/// Puts a kept row of a new key in its place, where there is room.
-pub fn add_kept(rows: &mut Vec<KeptRow>, row: KeptRow)
-    requires room { vec_len rows.old < vec_capacity rows.old }
-    requires sorted { Ascends texts_cmp kept_key rows.old.items }
-    requires fresh { find (λ k. bytes_eq k.user row.user && bytes_eq k.key row.key) rows.old.items ≡ None }
-    ensures { rows.new.items ≡ put texts_cmp kept_key row rows.old.items }
-{
-    let place = kept_place(rows.as_slice(), row.user.as_bytes(), row.key.as_bytes());
     let added = rows.insert(place, row);
     prove!(added.is_ok());
 }

@@ -8,17 +8,19 @@
 #![tactic(auto)]
 
 mod inserts;
+mod kept;
 mod lookups;
 mod places;
 mod rows;
 
 pub use inserts::{
-    add_approval, add_files, add_kept, add_policy, add_review, copy, copy_text, file_rows,
-    merge_review, put_certificate, source_files, withdraw_review,
+    add_approval, add_files, add_policy, add_review, copy, copy_text, file_rows, merge_review,
+    put_certificate, source_files, withdraw_review,
 };
+pub use kept::KeptTable;
 pub use lookups::{
     approvals_in, approvals_to, certificate_in, files_in, is_approved_by, is_same_files, item,
-    kept_in, policy_in, review_in, user_with,
+    policy_in, review_in, user_with,
 };
-pub use places::{is_same, kept_place, numbered_order, texts_order};
+pub use places::{is_same, numbered_order, texts_order};
 pub use rows::{ApprovalRow, CertificateRow, FileRow, KeptRow, PolicyRow, ReviewRow, Rows, User};

@@ -5,14 +5,14 @@ ghost use Rattle.std.specs.Option.{option_copied};
 ghost use Rattle.std.specs.List.{list_any};
 ghost use Rattle.std.specs.Ordering.{nat_cmp};
 ghost use Rattle.std.specs.Str.{bytes_eq};
-ghost use Rattle.desk_tables.specs.Order.{texts_cmp, numbered_cmp, Ascends, Counts, passing};
-ghost use Rattle.desk_tables.specs.Tables.{kept_key, approval_key, file_key, certificate_key, user_of, same_files};
+ghost use Rattle.desk_tables.specs.Order.{numbered_cmp, Ascends, Counts, passing};
+ghost use Rattle.desk_tables.specs.Tables.{approval_key, file_key, certificate_key, user_of, same_files};
 
 use crate::places::{
-    approval_place, certificate_place, first_approval, first_file, is_same, kept_place,
-    past_approval, past_file,
+    approval_place, certificate_place, first_approval, first_file, is_same, past_approval,
+    past_file,
 };
-use crate::{ApprovalRow, CertificateRow, FileRow, KeptRow, PolicyRow, ReviewRow, User};
+use crate::{ApprovalRow, CertificateRow, FileRow, PolicyRow, ReviewRow, User};
 use net_types::SourceFile;
 
 /// The user with the token.
@@ -76,31 +76,6 @@ fn certificate_if(row: Option<&CertificateRow>, review: u64) -> Option<&Certific
         Some(row) if row.review == review => Some(row),
         _ => None,
     }
-}
-
-/// What is kept for the user's key.
-pub fn kept_in<'a>(rows: &'a [KeptRow], user: &[u8], key: &[u8]) -> Option<&'a KeptRow>
-    requires { Ascends texts_cmp kept_key rows.now }
-    ensures { option_copied result ≡ find (λ k. bytes_eq k.user user.now && bytes_eq k.key key.now) rows.now }
-{
-    kept_if(item(rows, kept_place(rows, user, key)), user, key)
-}
-
-/// The row, if it is kept for the user's key.
-fn kept_if<'a>(row: Option<&'a KeptRow>, user: &[u8], key: &[u8]) -> Option<&'a KeptRow>
-    ensures { option_copied result ≡ passing (λ k. bytes_eq k.user user.now && bytes_eq k.key key.now) (option_copied row.entry) }
-{
-    match row {
-        Some(row) if is_kept_for(row, user, key) => Some(row),
-        _ => None,
-    }
-}
-
-/// Whether the row is kept for the user's key.
-fn is_kept_for(row: &KeptRow, user: &[u8], key: &[u8]) -> bool
-    ensures { result ≡ (bytes_eq row.now.user user.now && bytes_eq row.now.key key.now) }
-{
-    is_same(row.user.as_bytes(), user) && is_same(row.key.as_bytes(), key)
 }
 
 /// Whether the user has approved the review.

@@ -4,9 +4,9 @@ ghost use Rattle.std.specs.Prelude.{◌≡◌, ◌≤◌, ◌&&◌, ◌==◌, le
 ghost use Rattle.std.specs.Ordering.{nat_cmp};
 ghost use Rattle.std.specs.Str.{bytes_eq};
 ghost use Rattle.desk_tables.specs.Order.{text_cmp, texts_cmp, numbered_cmp, before, Ascends, Splits};
-ghost use Rattle.desk_tables.specs.Tables.{kept_key, approval_key, file_key, certificate_key};
+ghost use Rattle.desk_tables.specs.Tables.{approval_key, file_key, certificate_key};
 
-use crate::{ApprovalRow, CertificateRow, FileRow, KeptRow};
+use crate::{ApprovalRow, CertificateRow, FileRow};
 use std::cmp::Ordering;
 
 /// Whether two texts have the same bytes.
@@ -35,16 +35,6 @@ pub fn numbered_order(m: u64, a: &[u8], n: u64, b: &[u8]) -> Ordering
     ensures { result ≡ numbered_cmp (m, a.now) (n, b.now) }
 {
     m.cmp(&n).then(text_order(a, b))
-}
-
-/// How many rows come before the user's key.
-pub fn kept_place(rows: &[KeptRow], user: &[u8], key: &[u8]) -> usize
-    requires { Ascends texts_cmp kept_key rows.now }
-    ensures { Splits (before texts_cmp kept_key (user.now, key.now)) rows.now result }
-{
-    rows.partition_point(|k| {
-        texts_order(k.user.as_bytes(), k.key.as_bytes(), user, key).is_lt()
-    })
 }
 
 /// How many rows come before the review's approval by the user.
