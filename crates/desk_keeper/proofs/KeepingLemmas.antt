@@ -5,7 +5,7 @@ use Rattle.desk_tables.specs.declared.rows.Rows.{Rows}
 use Rattle.review_rules.specs.State.{State}
 use Rattle.review_rules.specs.Changes.{made, change_for, CanBeMade}
 use Rattle.review_rules.specs.Rules.{Accepted, accepted, decision, reply_of, step}
-use Rattle.review_rules.specs.Judging.{IsRequest, NamesProperty, Means}
+use Rattle.review_rules.specs.Judging.{IsRequest, NamesProperty}
 use Rattle.review_rules.specs.declared.changes.Change.{Change}
 use Rattle.review_rules.specs.declared.requests.Request.{Request}
 use Rattle.review_rules.specs.declared.requests.JudgeAnswer.{JudgeAnswer}

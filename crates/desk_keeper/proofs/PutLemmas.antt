@@ -1,19 +1,18 @@
 -- Rows put at their place in a table that is in key order.
-use Rattle.std.proofs.Common.{◌≡◌, ◌<◌, ◌&&◌, ◌==◌, ℕ, Bool, true, List, length, get_or, set, slice_get, find, None, ◌∙◌}
+use Rattle.std.proofs.Common.{◌≡◌, ◌<◌, ◌&&◌, ◌==◌, ℕ, Bool, true, List, length, get_or, set, slice_get, None, ◌∙◌}
 use Rattle.std.specs.List.{insert}
 use Rattle.std.specs.Str.{bytes_eq}
 use Rattle.std.specs.Ordering.{nat_cmp, is_eq}
 use Rattle.std.specs.declared.cmp.Ordering.{Ordering}
 use Rattle.std.specs.Cmp.{IsTotalOrder}
 use Rattle.std.proofs.lemmas.Cmp.{nat_cmp_total}
-use Rattle.desk_tables.specs.Order.{put, passing, before, Ascends, Splits, texts_cmp, numbered_cmp}
-use Rattle.desk_tables.specs.Tables.{policy_key, review_key, file_key, approval_key, kept_key}
+use Rattle.desk_tables.specs.Order.{put, passing, before, Ascends, Splits, numbered_cmp}
+use Rattle.desk_tables.specs.Tables.{policy_key, review_key, file_key, approval_key}
 use Rattle.desk_tables.specs.declared.rows.PolicyRow.{PolicyRow}
 use Rattle.desk_tables.specs.declared.rows.ReviewRow.{ReviewRow}
 use Rattle.desk_tables.specs.declared.rows.FileRow.{FileRow}
 use Rattle.desk_tables.specs.declared.rows.ApprovalRow.{ApprovalRow}
-use Rattle.desk_tables.specs.declared.rows.KeptRow.{KeptRow}
-use Rattle.desk_tables.proofs.TableLemmas.{find_split, numbers_tie, numbered_tie, numbered_total, texts_tie, texts_total}
+use Rattle.desk_tables.proofs.TableLemmas.{find_split, numbers_tie, numbered_tie, numbered_total}
 use Rattle.desk_tables.proofs.PlaceLemmas.{put_at, put_over}
 
 -- a new row, where the one at the place has another key
@@ -43,9 +42,3 @@ put_approval_at row xs i sorted split none = put_here numbered_cmp approval_key 
 
 pub put_approval_over : (row : ApprovalRow) (xs : List ApprovalRow) (i : ℕ) (d : ApprovalRow) → Ascends numbered_cmp approval_key xs → i < length xs → ((get_or xs i d).review == row.review && bytes_eq (get_or xs i d).user row.user) ≡ true → set xs i row ≡ put numbered_cmp approval_key row xs
 put_approval_over row xs i d sorted low same = put_over numbered_cmp approval_key row numbered_total xs i d sorted low (numbered_tie (approval_key (get_or xs i d)) (approval_key row) ∙ same)
-
-pub put_kept_at : (row : KeptRow) (xs : List KeptRow) (i : ℕ) → Ascends texts_cmp kept_key xs → Splits (before texts_cmp kept_key (row.user, row.key)) xs i → passing (λ (x : KeptRow). bytes_eq x.user row.user && bytes_eq x.key row.key) (slice_get xs i) ≡ None → insert xs i row ≡ put texts_cmp kept_key row xs
-put_kept_at row xs i sorted split none = put_here texts_cmp kept_key row (λ (x : KeptRow). bytes_eq x.user row.user && bytes_eq x.key row.key) texts_total (λ x. texts_tie (kept_key x) (kept_key row)) xs i sorted split none
-
-pub put_kept_over : (row : KeptRow) (xs : List KeptRow) (i : ℕ) (d : KeptRow) → Ascends texts_cmp kept_key xs → i < length xs → (bytes_eq (get_or xs i d).user row.user && bytes_eq (get_or xs i d).key row.key) ≡ true → set xs i row ≡ put texts_cmp kept_key row xs
-put_kept_over row xs i d sorted low same = put_over texts_cmp kept_key row texts_total xs i d sorted low (texts_tie (kept_key (get_or xs i d)) (kept_key row) ∙ same)

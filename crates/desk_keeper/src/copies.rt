@@ -1,9 +1,11 @@
 //! Copies of rows and of changes.
 
-ghost use Rattle.std.specs.Prelude.{◌≡◌, IfOk};
+ghost use Rattle.std.specs.Prelude.{◌≡◌, ◌+◌, ◌++◌, IfOk, OnOk, drop};
 
+use crate::tables::Tables;
 use desk_tables::{
-    ApprovalRow, CertificateRow, FileRow, KeptRow, PolicyRow, ReviewRow, Rows, copy, copy_text,
+    ApprovalRow, CertificateRow, FileRow, KeptRow, KeptTable, PolicyRow, ReviewRow, Rows, copy,
+    copy_text,
 };
 use net_types::{List, NoMemory};
 use review_rules::{Change, ChangeKind};
@@ -127,27 +129,43 @@ fn copy_kept(alloc: Global, row: &KeptRow) -> Result<KeptRow, NoMemory>
     })
 }
 
-fn copy_keeps(alloc: Global, rows: &[KeptRow]) -> Result<List<KeptRow>, NoMemory>
-    ensures { IfOk result (λ r. r ≡ rows.now) }
+// Copies the row at a place behind the others.
+#[tactic(auto, using(crate::proofs::CopyLemmas::copied, crate::proofs::CopyLemmas::past))]
+fn copy_next(
+    alloc: Global,
+    table: &KeptTable,
+    place: usize,
+    all: &mut List<KeptRow>,
+) -> Result<(), NoMemory>
+    ensures { OnOk result (all.new ++ drop (place + 1) table.now.items ≡ all.old ++ drop place table.now.items) }
+{
+    if let Some(row) = table.row(place) {
+        all.push(copy_kept(alloc, row)?)?;
+    }
+    Ok(())
+}
+
+fn copy_keeps(alloc: Global, table: &KeptTable) -> Result<List<KeptRow>, NoMemory>
+    ensures { IfOk result (λ r. r ≡ table.now.items) }
 {
     let mut all = List::new(alloc);
-    for row in rows {
-        all.push(copy_kept(alloc, row)?)?;
+    for i in 0..table.len() {
+        copy_next(alloc, table, i, &mut all)?;
     }
     Ok(all)
 }
 
-/// The same tables once more.
-pub(crate) fn copy_rows(alloc: Global, rows: &Rows) -> Result<Rows, NoMemory>
-    ensures { IfOk result (λ r. r ≡ rows.now) }
+/// The rows of the tables once more.
+pub(crate) fn copy_rows(alloc: Global, tables: &Tables) -> Result<Rows, NoMemory>
+    ensures { IfOk result (λ r. r ≡ tables.now) }
 {
     Ok(Rows {
-        policies: copy_policies(alloc, rows.policies.as_slice())?,
-        reviews: copy_reviews(alloc, rows.reviews.as_slice())?,
-        files: copy_files(alloc, rows.files.as_slice())?,
-        approvals: copy_approvals(alloc, rows.approvals.as_slice())?,
-        certificates: copy_certificates(alloc, rows.certificates.as_slice())?,
-        kept: copy_keeps(alloc, rows.kept.as_slice())?,
+        policies: copy_policies(alloc, tables.policies.as_slice())?,
+        reviews: copy_reviews(alloc, tables.reviews.as_slice())?,
+        files: copy_files(alloc, tables.files.as_slice())?,
+        approvals: copy_approvals(alloc, tables.approvals.as_slice())?,
+        certificates: copy_certificates(alloc, tables.certificates.as_slice())?,
+        kept: copy_keeps(alloc, &tables.kept)?,
     })
 }
 

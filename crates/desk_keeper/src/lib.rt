@@ -15,6 +15,7 @@ mod making;
 mod mem_keeper;
 mod puts;
 mod store;
+mod tables;
 
 pub use keeper::{Keeper, KeeperError};
 pub use laws::law_of_order;

@@ -6,9 +6,10 @@ ghost use Rattle.desk_tables.specs.Tables.{at_review, file_key, merged, withdraw
 ghost use Rattle.review_rules.specs.Changes.{made, put_all};
 ghost use Rattle.desk_keeper.specs.Memory.{AreInOrder};
 
-use crate::puts::{put_approval, put_file, put_kept, put_policy, put_review};
+use crate::puts::{put_approval, put_file, put_policy, put_review};
+use crate::tables::Tables;
 use desk_tables::{
-    ApprovalRow, CertificateRow, FileRow, KeptRow, PolicyRow, ReviewRow, Rows, put_certificate,
+    ApprovalRow, CertificateRow, FileRow, KeptRow, PolicyRow, ReviewRow, put_certificate,
 };
 use net_types::{List, NoMemory};
 use review_rules::{Change, ChangeKind};
@@ -87,7 +88,7 @@ fn withdraw_in(rows: &mut [ReviewRow], id: u64)
 
 fn make_policy(
     alloc: Global,
-    rows: &mut Rows,
+    rows: &mut Tables,
     row: PolicyRow,
     kept: KeptRow,
 ) -> Result<(), NoMemory>
@@ -95,21 +96,17 @@ fn make_policy(
     ensures made { OnOk result (rows.new ≡ made (record { kind = ChangeKind.Policy row; kept = kept }) rows.old) }
     ensures same { OnErr result (rows.new ≡ rows.old) }
 {
+    rows.kept.reserve(1)?;
     let mut policies = roomy(alloc, &mut rows.policies, 1)?;
-    let Ok(mut keeps) = roomy(alloc, &mut rows.kept, 1) else {
-        rows.policies = List::from_vec(policies);
-        return Err(NoMemory);
-    };
     put_policy(&mut policies, row);
-    put_kept(&mut keeps, kept);
+    rows.kept.put(kept);
     rows.policies = List::from_vec(policies);
-    rows.kept = List::from_vec(keeps);
     Ok(())
 }
 
 fn make_certificate(
     alloc: Global,
-    rows: &mut Rows,
+    rows: &mut Tables,
     row: CertificateRow,
     kept: KeptRow,
 ) -> Result<(), NoMemory>
@@ -117,21 +114,17 @@ fn make_certificate(
     ensures made { OnOk result (rows.new ≡ made (record { kind = ChangeKind.Certificate row; kept = kept }) rows.old) }
     ensures same { OnErr result (rows.new ≡ rows.old) }
 {
+    rows.kept.reserve(1)?;
     let mut certificates = roomy(alloc, &mut rows.certificates, 1)?;
-    let Ok(mut keeps) = roomy(alloc, &mut rows.kept, 1) else {
-        rows.certificates = List::from_vec(certificates);
-        return Err(NoMemory);
-    };
     put_certificate(&mut certificates, row);
-    put_kept(&mut keeps, kept);
+    rows.kept.put(kept);
     rows.certificates = List::from_vec(certificates);
-    rows.kept = List::from_vec(keeps);
     Ok(())
 }
 
 fn make_approval(
     alloc: Global,
-    rows: &mut Rows,
+    rows: &mut Tables,
     row: ApprovalRow,
     kept: KeptRow,
 ) -> Result<(), NoMemory>
@@ -139,21 +132,17 @@ fn make_approval(
     ensures made { OnOk result (rows.new ≡ made (record { kind = ChangeKind.Approval row; kept = kept }) rows.old) }
     ensures same { OnErr result (rows.new ≡ rows.old) }
 {
+    rows.kept.reserve(1)?;
     let mut approvals = roomy(alloc, &mut rows.approvals, 1)?;
-    let Ok(mut keeps) = roomy(alloc, &mut rows.kept, 1) else {
-        rows.approvals = List::from_vec(approvals);
-        return Err(NoMemory);
-    };
     put_approval(&mut approvals, row);
-    put_kept(&mut keeps, kept);
+    rows.kept.put(kept);
     rows.approvals = List::from_vec(approvals);
-    rows.kept = List::from_vec(keeps);
     Ok(())
 }
 
 fn make_merge(
     alloc: Global,
-    rows: &mut Rows,
+    rows: &mut Tables,
     review: u64,
     head: u64,
     kept: KeptRow,
@@ -162,18 +151,17 @@ fn make_merge(
     ensures made { OnOk result (rows.new ≡ made (record { kind = ChangeKind.Merge review head; kept = kept }) rows.old) }
     ensures same { OnErr result (rows.new ≡ rows.old) }
 {
-    let mut keeps = roomy(alloc, &mut rows.kept, 1)?;
+    rows.kept.reserve(1)?;
     let mut reviews = taken(alloc, &mut rows.reviews);
     merge_in(reviews.as_mut_slice(), review, head);
-    put_kept(&mut keeps, kept);
+    rows.kept.put(kept);
     rows.reviews = List::from_vec(reviews);
-    rows.kept = List::from_vec(keeps);
     Ok(())
 }
 
 fn make_withdrawal(
     alloc: Global,
-    rows: &mut Rows,
+    rows: &mut Tables,
     review: u64,
     kept: KeptRow,
 ) -> Result<(), NoMemory>
@@ -181,18 +169,17 @@ fn make_withdrawal(
     ensures made { OnOk result (rows.new ≡ made (record { kind = ChangeKind.Withdraw review; kept = kept }) rows.old) }
     ensures same { OnErr result (rows.new ≡ rows.old) }
 {
-    let mut keeps = roomy(alloc, &mut rows.kept, 1)?;
+    rows.kept.reserve(1)?;
     let mut reviews = taken(alloc, &mut rows.reviews);
     withdraw_in(reviews.as_mut_slice(), review);
-    put_kept(&mut keeps, kept);
+    rows.kept.put(kept);
     rows.reviews = List::from_vec(reviews);
-    rows.kept = List::from_vec(keeps);
     Ok(())
 }
 
 fn make_review(
     alloc: Global,
-    rows: &mut Rows,
+    rows: &mut Tables,
     row: ReviewRow,
     files: List<FileRow>,
     kept: KeptRow,
@@ -201,27 +188,22 @@ fn make_review(
     ensures made { OnOk result (rows.new ≡ made (record { kind = ChangeKind.Review row files; kept = kept }) rows.old) }
     ensures same { OnErr result (rows.new ≡ rows.old) }
 {
+    rows.kept.reserve(1)?;
     let mut reviews = roomy(alloc, &mut rows.reviews, 1)?;
     let Ok(mut bodies) = roomy(alloc, &mut rows.files, files.len()) else {
         rows.reviews = List::from_vec(reviews);
         return Err(NoMemory);
     };
-    let Ok(mut keeps) = roomy(alloc, &mut rows.kept, 1) else {
-        rows.reviews = List::from_vec(reviews);
-        rows.files = List::from_vec(bodies);
-        return Err(NoMemory);
-    };
     put_review(&mut reviews, row);
     put_files(&mut bodies, files);
-    put_kept(&mut keeps, kept);
+    rows.kept.put(kept);
     rows.reviews = List::from_vec(reviews);
     rows.files = List::from_vec(bodies);
-    rows.kept = List::from_vec(keeps);
     Ok(())
 }
 
 // Makes a change, by its kind.
-fn make_kind(alloc: Global, rows: &mut Rows, change: Change) -> Result<(), NoMemory>
+fn make_kind(alloc: Global, rows: &mut Tables, change: Change) -> Result<(), NoMemory>
     requires { AreInOrder rows.old }
     ensures made { OnOk result (rows.new ≡ made change rows.old) }
     ensures same { OnErr result (rows.new ≡ rows.old) }
@@ -242,7 +224,7 @@ fn make_kind(alloc: Global, rows: &mut Rows, change: Change) -> Result<(), NoMem
 /// # Errors
 /// `NoMemory` at any time. The tables are then as before.
 #[tactic(auto, using(crate::proofs::OrderLemmas::made_or_same))]
-pub(crate) fn make(alloc: Global, rows: &mut Rows, change: Change) -> Result<(), NoMemory>
+pub(crate) fn make(alloc: Global, rows: &mut Tables, change: Change) -> Result<(), NoMemory>
     requires { AreInOrder rows.old }
     ensures made { OnOk result (rows.new ≡ made change rows.old) }
     ensures same { OnErr result (rows.new ≡ rows.old) }

@@ -4,6 +4,7 @@ ghost use Rattle.std.specs.Prelude.{◌≡◌, IfOk, None, Some};
 
 use crate::copies::{copy_change, copy_rows};
 use crate::making::make;
+use crate::tables::Tables;
 use crate::{Keeper, KeeperError};
 use desk_tables::Rows;
 use net_types::{NoMemory, Text};
@@ -18,7 +19,7 @@ use std::marker::Model;
 pub struct MemKeeper {
     calls: Calls,
     name: Option<Text>,
-    rows: Rows,
+    tables: Tables,
 }
 
 impl Model for MemKeeper {
@@ -26,9 +27,9 @@ impl Model for MemKeeper {
 
     ghost Value = { KeeperValue };
 
-    ghost view = { λ k. record { calls = k.calls; name = k.name; rows = k.rows } };
+    ghost view = { λ k. record { calls = k.calls; name = k.name; rows = k.tables } };
 
-    ghost invariant = { λ k. AreInOrder k.rows };
+    ghost invariant = { λ k. AreInOrder k.tables };
 }
 
 impl MemKeeper {
@@ -42,15 +43,15 @@ impl MemKeeper {
         Ok(MemKeeper {
             calls: Calls::new(alloc, failing)?,
             name: None,
-            rows,
+            tables: Tables::of(alloc, rows)?,
         })
     }
 
-    /// The tables.
-    pub fn rows(&self) -> &Rows
-        ensures { result.now ≡ self.now.rows }
+    /// A copy of the tables.
+    pub fn rows(&self, alloc: Global) -> Result<Rows, NoMemory>
+        ensures { IfOk result (λ rows. rows ≡ self.now.rows) }
     {
-        &self.rows
+        copy_rows(alloc, &self.tables)
     }
 }
 
@@ -92,7 +93,7 @@ impl Keeper for MemKeeper {
         ensures told { IfOk result (λ rows. Agrees (Some self.old.rows) rows) }
     {
         self.calls.begin()?;
-        Ok(copy_rows(alloc, &self.rows)?)
+        Ok(copy_rows(alloc, &self.tables)?)
     }
 
     fn commit(&mut self, alloc: Global, change: &Change) -> Result<(), KeeperError>
@@ -106,7 +107,7 @@ impl Keeper for MemKeeper {
     {
         self.calls.begin()?;
         let change = copy_change(alloc, change)?;
-        make(alloc, &mut self.rows, change)?;
+        make(alloc, &mut self.tables, change)?;
         Ok(())
     }
 }

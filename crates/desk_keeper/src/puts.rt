@@ -4,17 +4,14 @@ ghost use Rattle.std.specs.Prelude.{◌≡◌, ◌+◌, ◌≤◌, ◌<◌, ◌&
 ghost use Rattle.std.specs.Str.{bytes_eq};
 ghost use Rattle.std.specs.List.{insert};
 ghost use Rattle.std.specs.Ordering.{nat_cmp};
-ghost use Rattle.desk_tables.specs.Order.{put, passing, before, Ascends, Splits, texts_cmp, numbered_cmp};
-ghost use Rattle.desk_tables.specs.Tables.{policy_key, review_key, file_key, approval_key, kept_key};
+ghost use Rattle.desk_tables.specs.Order.{put, passing, before, Ascends, Splits, numbered_cmp};
+ghost use Rattle.desk_tables.specs.Tables.{policy_key, review_key, file_key, approval_key};
 ghost use Rattle.desk_tables.specs.declared.rows.PolicyRow.{PolicyRow};
 ghost use Rattle.desk_tables.specs.declared.rows.ReviewRow.{ReviewRow};
 ghost use Rattle.desk_tables.specs.declared.rows.FileRow.{FileRow};
 ghost use Rattle.desk_tables.specs.declared.rows.ApprovalRow.{ApprovalRow};
-ghost use Rattle.desk_tables.specs.declared.rows.KeptRow.{KeptRow};
 
-use desk_tables::{
-    ApprovalRow, FileRow, KeptRow, PolicyRow, ReviewRow, is_same, kept_place, numbered_order,
-};
+use desk_tables::{ApprovalRow, FileRow, PolicyRow, ReviewRow, is_same, numbered_order};
 
 // How many versions come before this one.
 fn policy_place(rows: &[PolicyRow], version: u64) -> usize
@@ -180,41 +177,6 @@ fn is_approval_at(rows: &[ApprovalRow], place: usize, row: &ApprovalRow) -> bool
 
 // Inserts the row at the place.
 fn insert_approval(rows: &mut Vec<ApprovalRow>, place: usize, row: ApprovalRow)
-    requires room { vec_len rows.old < vec_capacity rows.old }
-    requires within { place ≤ vec_len rows.old }
-    ensures { rows.new.items ≡ insert rows.old.items place row }
-{
-    let added = rows.insert(place, row);
-    prove!(added.is_ok());
-}
-
-/// Puts a kept row in its place.
-pub(crate) fn put_kept(rows: &mut Vec<KeptRow>, row: KeptRow)
-    requires room { vec_len rows.old < vec_capacity rows.old }
-    requires sorted { Ascends texts_cmp kept_key rows.old.items }
-    ensures { rows.new.items ≡ put texts_cmp kept_key row rows.old.items }
-{
-    let place = kept_place(rows.as_slice(), row.user.as_bytes(), row.key.as_bytes());
-    if is_kept_at(rows.as_slice(), place, &row) {
-        rows[place] = row;
-    } else {
-        insert_kept(rows, place, row);
-    }
-}
-
-// Whether the row at the place has the key of this one.
-fn is_kept_at(rows: &[KeptRow], place: usize, row: &KeptRow) -> bool
-    ensures within { result ≡ true → place < length rows.now }
-    ensures here { (d : KeptRow) → result ≡ true → (bytes_eq (slice_index_or rows.now place d).user row.now.user && bytes_eq (slice_index_or rows.now place d).key row.now.key) ≡ true }
-    ensures other { result ≡ false → passing (λ (x : KeptRow). bytes_eq x.user row.now.user && bytes_eq x.key row.now.key) (slice_get rows.now place) ≡ None }
-{
-    place < rows.len()
-        && is_same(rows[place].user.as_bytes(), row.user.as_bytes())
-        && is_same(rows[place].key.as_bytes(), row.key.as_bytes())
-}
-
-// Inserts the row at the place.
-fn insert_kept(rows: &mut Vec<KeptRow>, place: usize, row: KeptRow)
     requires room { vec_len rows.old < vec_capacity rows.old }
     requires within { place ≤ vec_len rows.old }
     ensures { rows.new.items ≡ insert rows.old.items place row }

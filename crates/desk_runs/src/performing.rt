@@ -51,7 +51,7 @@ fn question(
     words: &str,
 ) -> Result<String, NoMemory> {
     match cut_word(words) {
-        ("tables", "") => tables_text(alloc, keeper.rows()),
+        ("tables", "") => tables_text(alloc, &keeper.rows(alloc)?),
         ("head", "") => head_text(alloc, store),
         (reader, numbers) => read(alloc, store.desk(), reader, numbers),
     }

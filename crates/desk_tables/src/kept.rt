@@ -1,6 +1,6 @@
 //! The table of kept rows.
 
-ghost use Rattle.std.specs.Prelude.{◌≡◌, ◌<◌, ◌≤◌, ◌&&◌, IfOk, OnOk, None, true, false, length, find, is_some, slice_get, vec_len, vec_capacity};
+ghost use Rattle.std.specs.Prelude.{◌≡◌, ◌^◌, ◌<◌, ◌≤◌, ◌&&◌, IfOk, OnOk, None, true, false, length, find, is_some, slice_get, vec_len, vec_capacity};
 ghost use Rattle.std.specs.List.{All};
 ghost use Rattle.std.specs.Option.{option_copied};
 ghost use Rattle.std.specs.Str.{bytes_eq};
@@ -66,7 +66,8 @@ impl KeptTable {
 
     /// How many rows come before the user's key.
     pub fn place(&self, user: &[u8], key: &[u8]) -> usize
-        ensures { Splits (before texts_cmp kept_key (user.now, key.now)) self.now.items result }
+        ensures split { Splits (before texts_cmp kept_key (user.now, key.now)) self.now.items result }
+        ensures small { result < 2 ^ 63 }
     {
         place_in(self.rows.as_slice(), self.order.as_slice(), user, key)
     }

@@ -71,7 +71,7 @@ fn found<K: Keeper>(alloc: Global, keeper: &mut K) -> Result<String, Fail> {
 fn wanted(alloc: Global) -> Result<String, Fail> {
     let mut keeper = MemKeeper::new(alloc, no_rows(alloc), &[])?;
     keep(alloc, &mut keeper, NAME, &changes(alloc)?)?;
-    Ok(shown(alloc, keeper.rows())?)
+    Ok(shown(alloc, &keeper.rows(alloc)?)?)
 }
 
 fn filled_file(rt: &HostRuntime) -> Result<bool, Fail> {

@@ -1,24 +1,20 @@
 -- What it takes for a request to be accepted.
-use Rattle.std.proofs.Common.{◌≡◌, ℕ, ◌+◌, ◌<◌, ◌≤◌, Bool, true, false, List, [], ◌∷◌, ◌++◌, not, ◌&&◌, ◌==◌, if◌then◌else◌, nat_lt, nat_le, length, map, Option, Some, None, refl, sym, ap, ◌∙◌, subst, arith}
+use Rattle.std.proofs.Common.{◌≡◌, ℕ, ◌+◌, ◌<◌, ◌≤◌, Bool, true, false, List, [], ◌∷◌, not, ◌==◌, if◌then◌else◌, nat_lt, nat_le, length, Option, Some, None, refl, sym, ap, ◌∙◌, subst, arith}
 use Rattle.std.proofs.lemmas.Bool.Decides.{nat_tests}
-use Rattle.net_types.specs.declared.config.SourceFile.{SourceFile}
 use Rattle.desk_tables.specs.declared.rows.User.{User}
 use Rattle.desk_tables.specs.declared.rows.Rows.{Rows}
-use Rattle.desk_tables.specs.declared.rows.PolicyRow.{PolicyRow}
 use Rattle.desk_tables.specs.declared.rows.ReviewRow.{ReviewRow}
-use Rattle.desk_tables.specs.declared.rows.FileRow.{FileRow}
-use Rattle.desk_tables.specs.declared.rows.ApprovalRow.{ApprovalRow}
 use Rattle.desk_tables.specs.declared.rows.CertificateRow.{CertificateRow}
 use Rattle.desk_tables.specs.declared.rows.KeptRow.{KeptRow}
 use Rattle.review_rules.specs.State.{State}
 use Rattle.review_rules.specs.declared.requests.Request.{Request}
 use Rattle.review_rules.specs.declared.requests.Command.{Command}
-use Rattle.review_rules.specs.declared.requests.Command.TheVariants.{SetPolicy, Submit, Certify, Approve, Merge, Withdraw}
+use Rattle.review_rules.specs.declared.requests.Command.TheVariants.{Merge}
 use Rattle.review_rules.specs.declared.requests.JudgeAnswer.{JudgeAnswer}
 use Rattle.review_rules.specs.declared.requests.Rule.{Rule}
-use Rattle.desk_tables.specs.Tables.{kept_of, user_of, review_of, certificate_of, approvals_of, head_of, version_of, needed, bytes_of, at_review, merged}
+use Rattle.desk_tables.specs.Tables.{kept_of, review_of, certificate_of, approvals_of, head_of, version_of, needed, bytes_of, at_review, merged}
 use Rattle.desk_tables.proofs.TableLemmas.{and_true}
-use Rattle.review_rules.specs.Rules.{Outcome, Repeated, Refused, Accepted, step, outcome, repeated, repeated_in, reused, if_same, same_command, kept_under, kept_for, asker, accepted, changed, kept_row, reply_of, first_broken, rules_of, own_rules, or_else, when, unless_user, no_author, unless_review, no_such_review, closed, closed_in, stale, stale_in, not_certified, lacking, missing_in, too_few_approvals, over, stale_base, too_many_reviews, bad_approvals}
+use Rattle.review_rules.specs.Rules.{Accepted, step, outcome, repeated, repeated_in, reused, if_same, same_command, kept_under, kept_for, asker, accepted, changed, reply_of, first_broken, rules_of, own_rules, or_else, when, unless_user, no_author, unless_review, no_such_review, closed, stale, not_certified, lacking, missing_in, too_few_approvals, over, stale_base, too_many_reviews, bad_approvals}
 use Rattle.review_rules.specs.Laws.{IsAccepted, MayMerge}
 use Rattle.review_rules.specs.declared.requests.Rule.TheVariants.{KeyReused, NotCertified}
 use Rattle.review_rules.specs.declared.requests.Lack.TheVariants.{NotRun}

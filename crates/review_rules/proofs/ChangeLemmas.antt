@@ -1,18 +1,12 @@
 -- What a change makes of the tables and of what a desk knows of them.
-use Rattle.std.proofs.Common.{◌≡◌, ◌≢◌, ℕ, zero, suc, ◌+◌, ◌-◌, ◌*◌, ◌^◌, ◌<◌, ◌≤◌, Bool, true, false, List, [], ◌∷◌, ◌++◌, length, map, find, filter, count_by, sum_by, min, not, ◌&&◌, ◌==◌, if◌then◌else◌, Option, Some, None, refl, sym, ap, ◌∙◌, subst, arith, length-append, append_assoc, slice_get}
+use Rattle.std.proofs.Common.{◌≡◌, ◌≢◌, ℕ, ◌+◌, ◌-◌, ◌^◌, ◌≤◌, Bool, true, false, List, [], ◌∷◌, ◌++◌, length, map, find, min, ◌&&◌, ◌==◌, Option, Some, None, refl, sym, ap, ◌∙◌, subst, arith, length-append, append_assoc, slice_get}
 use Rattle.std.specs.List.{All}
 use Rattle.std.specs.Str.{bytes_eq}
-use Rattle.std.specs.Ordering.{nat_cmp}
 use Rattle.std.proofs.lemmas.Bool.Decides.{nat_tests}
-use Rattle.std.proofs.lemmas.Cmp.{nat_cmp_total}
-use Rattle.net_types.specs.declared.config.SourceFile.{SourceFile}
 use Rattle.desk_tables.specs.declared.rows.User.{User}
 use Rattle.desk_tables.specs.declared.rows.Rows.{Rows}
-use Rattle.desk_tables.specs.declared.rows.PolicyRow.{PolicyRow}
 use Rattle.desk_tables.specs.declared.rows.ReviewRow.{ReviewRow}
 use Rattle.desk_tables.specs.declared.rows.FileRow.{FileRow}
-use Rattle.desk_tables.specs.declared.rows.ApprovalRow.{ApprovalRow}
-use Rattle.desk_tables.specs.declared.rows.CertificateRow.{CertificateRow}
 use Rattle.desk_tables.specs.declared.rows.KeptRow.{KeptRow}
 use Rattle.review_rules.specs.State.{State}
 use Rattle.review_rules.specs.declared.requests.Request.{Request}
@@ -20,24 +14,23 @@ use Rattle.review_rules.specs.declared.requests.Command.{Command}
 use Rattle.review_rules.specs.declared.requests.Command.TheVariants.{SetPolicy, Submit, Certify, Approve, Merge, Withdraw}
 use Rattle.review_rules.specs.declared.requests.JudgeAnswer.{JudgeAnswer}
 use Rattle.review_rules.specs.declared.requests.Rule.{Rule}
-use Rattle.desk_tables.specs.Order.{before, Ascends, Counts, put, texts_cmp, numbered_cmp}
-use Rattle.desk_tables.specs.Tables.{has_head, number_in, merged_of, is_merged, has_approved, kept_of, kept_key, approval_key, file_key, certificate_key, policy_key, review_key, user_of, review_of, head_of, version_of, bytes_of, file_row, at_review, merged, withdrawn}
-use Rattle.desk_tables.specs.Valid.{IsValid, IsReview, IsUpTo, IsDesk}
+use Rattle.desk_tables.specs.Order.{Ascends, put, texts_cmp, numbered_cmp}
+use Rattle.desk_tables.specs.Tables.{has_head, number_in, merged_of, is_merged, has_approved, kept_of, kept_key, file_key, policy_key, review_key, head_of, bytes_of, at_review, merged, withdrawn}
+use Rattle.desk_tables.specs.Valid.{IsValid, IsReview, IsDesk}
 use Rattle.desk_tables.proofs.TableLemmas.{numbered_total}
-use Rattle.desk_tables.proofs.PutLemmas.{found_up_to}
 use Rattle.desk_tables.proofs.PlaceLemmas.{append_nil, put_last, put_next, ascends_before}
-use Rattle.review_rules.specs.Rules.{policy_row, review_row, certificate_row, Accepted, step, accepted, asker, name_of, first_broken, own_rules, changed, kept_row, reply_of, already_approved, over, IsFirstApproval, decision, decided, outcome, repeated, rules_of, Outcome, Repeated, Refused, freed_of, cost_of}
-use Rattle.review_rules.specs.Changes.{put_all, with_kind, made, kind_for, change_for, rows_of, heads_of, IsOpenAt, IsNewKind, CanBeMade, kind_cost, kind_freed}
+use Rattle.review_rules.specs.Rules.{Accepted, step, accepted, asker, name_of, first_broken, own_rules, changed, kept_row, reply_of, already_approved, over, IsFirstApproval, decision, decided, outcome, repeated, rules_of, Refused}
+use Rattle.review_rules.specs.Changes.{put_all, with_kind, made, kind_for, change_for, heads_of, IsOpenAt, IsNewKind, CanBeMade, kind_cost, kind_freed}
 use Rattle.review_rules.specs.Judging.{IsRequest, NamesProperty}
 use Rattle.review_rules.specs.Laws.{IsAccepted, IsDecided}
 use Rattle.review_rules.specs.declared.changes.Change.{Change}
 use Rattle.review_rules.specs.declared.changes.ChangeKind.{ChangeKind}
 use Rattle.review_rules.specs.declared.changes.ChangeKind.TheVariants.{Policy, Review, Certificate, Approval, Merge as MergeKind, Withdraw as WithdrawKind}
-use Rattle.review_rules.specs.declared.requests.Decision.TheVariants.{Repeated as DecisionRepeated, Accepted as DecisionAccepted, Refused as DecisionRefused}
+use Rattle.review_rules.specs.declared.requests.Decision.TheVariants.{Accepted as DecisionAccepted, Refused as DecisionRefused}
 use Rattle.review_rules.proofs.RuleLemmas.{plain, IsFreshKind, bytes_plain, bytes_kept}
-use Rattle.review_rules.proofs.AcceptLemmas.{IsPassed, accepted_passes, passed_accepts, all_none, when_none, has_room}
+use Rattle.review_rules.proofs.AcceptLemmas.{IsPassed, accepted_passes, all_none, when_none, has_room}
 use Rattle.review_rules.proofs.IndexLemmas.{get_last, get_other, index_pushed, index_withdrawn, index_merged_other, index_merged_top}
-use Rattle.review_rules.proofs.ValidLemmas.{CanChange, StandsAt, stands_at, valid_changed, valid_accepted, passed_can, head_merged, count_pushed, count_withdrawn}
+use Rattle.review_rules.proofs.ValidLemmas.{CanChange, stands_at, valid_changed, valid_accepted, passed_can, head_merged, count_pushed, count_withdrawn}
 
 -- files behind all others are put at the end
 put_all_last : (fs xs : List FileRow) → Ascends numbered_cmp file_key (xs ++ fs) → put_all fs xs ≡ xs ++ fs

@@ -1,7 +1,7 @@
 -- Repeats of accepted requests change nothing.
-use Rattle.std.proofs.Common.{◌≡◌, ◌≢◌, ℕ, zero, suc, ◌+◌, ◌-◌, ◌<◌, ◌≤◌, Bool, true, false, List, [], ◌∷◌, ◌++◌, length, map, find, filter, not, ◌&&◌, ◌==◌, if◌then◌else◌, Option, Some, None, inl, inr, refl, sym, ap, ◌∙◌, subst, arith}
+use Rattle.std.proofs.Common.{◌≡◌, ℕ, ◌+◌, ◌<◌, Bool, true, false, List, [], ◌∷◌, ◌++◌, length, map, find, filter, ◌&&◌, ◌==◌, if◌then◌else◌, Option, Some, None, inl, inr, refl, sym, ap, ◌∙◌, subst, arith}
 use Rattle.std.specs.List.{All}
-use Rattle.std.specs.Ordering.{is_lt, is_eq, nat_cmp, ordering_reverse}
+use Rattle.std.specs.Ordering.{is_lt, is_eq, ordering_reverse}
 use Rattle.std.specs.declared.cmp.Ordering.{Ordering}
 use Rattle.std.specs.declared.cmp.Ordering.TheVariants.{Less, Equal, Greater}
 use Rattle.std.proofs.lemmas.Bool.Decides.{nat_tests}
@@ -20,8 +20,6 @@ use Rattle.desk_tables.specs.declared.rows.Rows.{Rows}
 use Rattle.desk_tables.specs.declared.rows.PolicyRow.{PolicyRow}
 use Rattle.desk_tables.specs.declared.rows.ReviewRow.{ReviewRow}
 use Rattle.desk_tables.specs.declared.rows.FileRow.{FileRow}
-use Rattle.desk_tables.specs.declared.rows.ApprovalRow.{ApprovalRow}
-use Rattle.desk_tables.specs.declared.rows.CertificateRow.{CertificateRow}
 use Rattle.desk_tables.specs.declared.rows.KeptRow.{KeptRow}
 use Rattle.review_rules.specs.State.{State}
 use Rattle.review_rules.specs.declared.requests.Request.{Request}
@@ -29,17 +27,16 @@ use Rattle.review_rules.specs.declared.requests.Command.{Command}
 use Rattle.review_rules.specs.declared.requests.Command.TheVariants.{SetPolicy, Submit, Certify, Approve, Merge, Withdraw}
 use Rattle.review_rules.specs.declared.requests.JudgeAnswer.{JudgeAnswer}
 use Rattle.review_rules.specs.declared.requests.Rule.{Rule}
-use Rattle.desk_tables.specs.Order.{before, after, Ascends, Counts, put, texts_cmp, numbered_cmp}
-use Rattle.desk_tables.specs.Tables.{files_of, kept_of, kept_key, approval_key, certificate_key, user_of, review_of, policy_of, head_of, file_row, same_files, at_review, merged, withdrawn}
+use Rattle.desk_tables.specs.Order.{before, after, Counts, put, texts_cmp}
+use Rattle.desk_tables.specs.Tables.{files_of, kept_of, kept_key, review_of, policy_of, head_of, file_row, same_files, at_review, merged, withdrawn}
 use Rattle.desk_tables.specs.Valid.{IsValid, IsUpTo, IsFile}
 use Rattle.desk_tables.proofs.TableLemmas.{and_true, find_counts, texts_total, texts_tie}
 use Rattle.desk_tables.proofs.PutLemmas.{found_up_to}
 use Rattle.desk_tables.proofs.PlaceLemmas.{append_nil}
-use Rattle.review_rules.specs.Rules.{policy_row, review_row, Outcome, Repeated, Refused, Accepted, step, accepted, name_of, changed, kept_row, kind_of, target_of, reply_of, asker, kept_under, kept_for, repeated, repeated_in, if_same, outcome, rules_of, first_broken, same_command, submitted_as, set_as, ask_of, asked, question}
-use Rattle.review_rules.specs.Judging.{Judging, IsJudging, IsRequest, NamesProperty, answer_of, if_asked, judged, judged_command}
+use Rattle.review_rules.specs.Rules.{policy_row, review_row, Outcome, Repeated, Refused, Accepted, step, accepted, name_of, changed, kept_row, kind_of, target_of, reply_of, asker, repeated, outcome, rules_of, first_broken, same_command, submitted_as, set_as, ask_of}
+use Rattle.review_rules.specs.Judging.{Judging, IsJudging, NamesProperty, answer_of, if_asked, judged, judged_command}
 use Rattle.review_rules.specs.declared.requests.Ask.{Ask}
 use Rattle.review_rules.specs.declared.requests.Ask.TheVariants.{Nothing, Bundle, Run, Book}
-use Rattle.review_rules.specs.declared.requests.JudgeAnswer.TheVariants.{NotAsked}
 use Rattle.review_rules.specs.Laws.{IsAccepted, tables_after, next, run, IsOneOf, with_accepted, LeavesOutRepeats, AreRequests}
 use Rattle.review_rules.proofs.AcceptLemmas.{IsPassed, accepted_passes, passed_accepts}
 use Rattle.review_rules.proofs.ValidLemmas.{tables_stay_valid, accepted_same}

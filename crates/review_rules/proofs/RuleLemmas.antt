@@ -1,5 +1,5 @@
 -- What the rules and the definition of a step come to.
-use Rattle.std.proofs.Common.{◌≡◌, ℕ, zero, suc, ◌+◌, ◌*◌, ◌-◌, ◌<◌, ◌≤◌, Bool, true, false, ◌&&◌, List, [], ◌∷◌, ◌++◌, length, map, filter, sum_by, find, not, ◌==◌, if◌then◌else◌, Option, Some, None, refl, sym, ap, ◌∙◌, arith, rules, length-append}
+use Rattle.std.proofs.Common.{◌≡◌, ℕ, suc, ◌+◌, ◌*◌, ◌-◌, false, ◌&&◌, List, [], ◌∷◌, ◌++◌, length, map, filter, sum_by, ◌==◌, Option, Some, None, refl, ap, ◌∙◌, arith, length-append}
 use Rattle.std.specs.Str.{bytes_eq}
 use Rattle.std.specs.Option.{option_to_list}
 use Rattle.std.specs.Ordering.{nat_cmp}
@@ -12,7 +12,6 @@ use Rattle.desk_tables.specs.Valid.{IsValid}
 use Rattle.desk_tables.specs.declared.rows.User.{User}
 use Rattle.desk_tables.specs.declared.rows.Rows.{Rows}
 use Rattle.desk_tables.specs.declared.rows.PolicyRow.{PolicyRow}
-use Rattle.desk_tables.specs.declared.rows.ReviewRow.{ReviewRow}
 use Rattle.desk_tables.specs.declared.rows.FileRow.{FileRow}
 use Rattle.desk_tables.specs.declared.rows.CertificateRow.{CertificateRow}
 use Rattle.desk_tables.specs.declared.rows.KeptRow.{KeptRow}
@@ -20,7 +19,7 @@ use Rattle.desk_tables.proofs.TableLemmas.{texts_total, numbered_total, texts_ti
 use Rattle.desk_tables.proofs.PutLemmas.{length-put, one_tied, sum_parts, sum_put, sum_ones}
 use Rattle.desk_tables.proofs.PlaceLemmas.{none_found}
 use Rattle.review_rules.specs.State.{State}
-use Rattle.review_rules.specs.Rules.{asker, policy_row, review_row, accepted, changed, decision, decided, first_broken, own_rules, or_else, early, late, ask_of, question, asked, cost_of, freed_of, freed_by, certificate_row, size_of, kept_row, IsFirstApproval}
+use Rattle.review_rules.specs.Rules.{asker, policy_row, review_row, accepted, changed, decision, decided, first_broken, own_rules, or_else, early, ask_of, question, asked, cost_of, freed_of, freed_by, certificate_row, size_of, kept_row, IsFirstApproval}
 use Rattle.review_rules.specs.declared.requests.Request.{Request}
 use Rattle.review_rules.specs.declared.requests.Command.{Command}
 use Rattle.review_rules.specs.declared.requests.Command.TheVariants.{SetPolicy, Submit, Certify, Approve, Merge, Withdraw}

@@ -1,30 +1,18 @@
 -- What the tables of a desk are where a change is made in them, row by row.
-use Rattle.std.proofs.Common.{◌≡◌, ◌≢◌, ℕ, ◌+◌, ◌-◌, ◌^◌, ◌<◌, ◌≤◌, List, [], ◌∷◌, ◌++◌, length, map, min, Option, Some, None, refl, sym, ap, ◌∙◌, subst, arith}
-use Rattle.std.specs.Ordering.{nat_cmp}
-use Rattle.net_types.specs.declared.config.SourceFile.{SourceFile}
-use Rattle.desk_tables.specs.declared.rows.User.{User}
+use Rattle.std.proofs.Common.{◌≡◌, ℕ, ◌+◌, ◌-◌, ◌^◌, ◌≤◌, List, [], ◌∷◌, ◌++◌, length, map, min, sym, subst, arith}
 use Rattle.desk_tables.specs.declared.rows.Rows.{Rows}
 use Rattle.desk_tables.specs.declared.rows.PolicyRow.{PolicyRow}
 use Rattle.desk_tables.specs.declared.rows.ReviewRow.{ReviewRow}
 use Rattle.desk_tables.specs.declared.rows.FileRow.{FileRow}
-use Rattle.desk_tables.specs.declared.rows.ApprovalRow.{ApprovalRow}
-use Rattle.desk_tables.specs.declared.rows.CertificateRow.{CertificateRow}
 use Rattle.desk_tables.specs.declared.rows.KeptRow.{KeptRow}
-use Rattle.review_rules.specs.State.{State}
-use Rattle.review_rules.specs.declared.requests.Request.{Request}
-use Rattle.review_rules.specs.declared.requests.Command.{Command}
-use Rattle.review_rules.specs.declared.requests.Command.TheVariants.{SetPolicy, Submit, Certify, Approve, Merge, Withdraw}
-use Rattle.review_rules.specs.declared.requests.JudgeAnswer.{JudgeAnswer}
-use Rattle.review_rules.specs.declared.requests.Rule.{Rule}
-use Rattle.desk_tables.specs.Order.{put, texts_cmp, numbered_cmp}
-use Rattle.desk_tables.specs.Tables.{kept_key, approval_key, certificate_key, at_review, merged, withdrawn, bytes_of}
+use Rattle.desk_tables.specs.Order.{put, texts_cmp}
+use Rattle.desk_tables.specs.Tables.{kept_key, at_review, merged, withdrawn, bytes_of}
 use Rattle.desk_tables.specs.Valid.{IsValid, IsDesk}
 use Rattle.desk_tables.specs.Valid.{IsUpTo}
 use Rattle.desk_tables.proofs.PutLemmas.{found_up_to}
 use Rattle.review_rules.specs.Changes.{IsOpenAt, made, heads_of, CanBeMade, kind_freed, kind_cost}
 use Rattle.review_rules.specs.declared.changes.Change.{Change}
-use Rattle.review_rules.specs.declared.changes.ChangeKind.{ChangeKind}
-use Rattle.review_rules.specs.declared.changes.ChangeKind.TheVariants.{Policy, Review, Certificate, Approval, Merge as MergeKind, Withdraw as WithdrawKind}
+use Rattle.review_rules.specs.declared.changes.ChangeKind.TheVariants.{Policy, Review, Merge as MergeKind, Withdraw as WithdrawKind}
 use Rattle.review_rules.proofs.ChangeLemmas.{made_is, desk_made, bytes_made}
 
 pub take_policy_is : (t : Rows) (row : PolicyRow) (kept : KeptRow) (rows' : List PolicyRow) (kept' : List KeptRow) → IsValid t → CanBeMade (record { kind = Policy row; kept = kept }) t → rows' ≡ t.policies ++ row ∷ [] → kept' ≡ put texts_cmp kept_key kept t.kept → record t { policies = rows'; kept = kept' } ≡ made (record { kind = Policy row; kept = kept }) t

@@ -1,16 +1,14 @@
 -- Accepted commands keep the tables valid.
-use Rattle.std.proofs.Common.{◌≡◌, ◌≢◌, ℕ, zero, suc, ◌+◌, ◌-◌, ◌<◌, ◌≤◌, Bool, true, false, List, [], ◌∷◌, ◌++◌, length, map, find, filter, count_by, sum_by, unwrap_or, not, ◌&&◌, ◌==◌, if◌then◌else◌, nat_lt, nat_le, Option, Some, None, refl, sym, ap, ◌∙◌, subst, arith, length-append}
+use Rattle.std.proofs.Common.{◌≡◌, ◌≢◌, ℕ, ◌+◌, ◌<◌, ◌≤◌, Bool, true, false, List, [], ◌∷◌, ◌++◌, length, map, find, count_by, ◌==◌, if◌then◌else◌, Some, None, refl, sym, ap, ◌∙◌, subst, arith, length-append}
 use Rattle.std.specs.List.{list_all, All}
 use Rattle.std.specs.Ordering.{is_lt, nat_cmp, ordering_then, MatchOrdering}
 use Rattle.std.specs.declared.cmp.Ordering.{Ordering}
 use Rattle.std.specs.declared.cmp.Ordering.TheVariants.{Less, Equal, Greater}
 use Rattle.std.proofs.lemmas.Bool.Decides.{nat_tests}
 use Rattle.std.proofs.lemmas.Cmp.{nat_cmp_total, tied_itself, ranked}
-use Rattle.std.proofs.lemmas.List.Elements.{All-filter, All-append, All-cons, All-head, All-tail, All-nil, All-same, All-weaker, All-push, All-map}
+use Rattle.std.proofs.lemmas.List.Elements.{All-append, All-cons, All-head, All-tail, All-nil, All-same, All-weaker, All-push}
 use Rattle.std.proofs.lemmas.List.Sums.{sum_by-append, sum_by-cons}
-use Rattle.net_types.specs.Names.{is_host}
 use Rattle.net_types.specs.declared.config.SourceFile.{SourceFile}
-use Rattle.desk_tables.specs.declared.rows.User.{User}
 use Rattle.desk_tables.specs.declared.rows.Rows.{Rows}
 use Rattle.desk_tables.specs.declared.rows.PolicyRow.{PolicyRow}
 use Rattle.desk_tables.specs.declared.rows.ReviewRow.{ReviewRow}
@@ -23,17 +21,16 @@ use Rattle.review_rules.specs.declared.requests.Request.{Request}
 use Rattle.review_rules.specs.declared.requests.Command.{Command}
 use Rattle.review_rules.specs.declared.requests.Command.TheVariants.{SetPolicy, Submit, Certify, Approve, Merge, Withdraw}
 use Rattle.review_rules.specs.declared.requests.JudgeAnswer.{JudgeAnswer}
-use Rattle.review_rules.specs.declared.requests.Rule.{Rule}
-use Rattle.desk_tables.specs.Order.{before, after, Ascends, Counts, put, text_cmp, texts_cmp, numbered_cmp}
-use Rattle.desk_tables.specs.Tables.{has_head, is_merged, kept_of, kept_key, approval_key, file_key, certificate_key, user_of, review_of, certificate_of, head_of, version_of, bytes_of, file_row, at_review, merged, withdrawn}
+use Rattle.desk_tables.specs.Order.{after, Ascends, Counts, put, text_cmp, texts_cmp, numbered_cmp}
+use Rattle.desk_tables.specs.Tables.{has_head, is_merged, kept_key, approval_key, file_key, certificate_key, review_of, head_of, file_row, at_review, merged, withdrawn}
 use Rattle.desk_tables.specs.Valid.{IsValid, IsReview, IsPolicy, IsUpTo, IsFile, IsCertificate, IsKept}
-use Rattle.desk_tables.proofs.TableLemmas.{and_true, find_below, find_counts, numbered_total, texts_total}
-use Rattle.desk_tables.proofs.PutLemmas.{ascends_put, ascends_append, all_then, All-put, counts_push, found_up_to}
+use Rattle.desk_tables.proofs.TableLemmas.{and_true, numbered_total, texts_total}
+use Rattle.desk_tables.proofs.PutLemmas.{ascends_put, ascends_append, All-put, counts_push, found_up_to}
 use Rattle.desk_tables.proofs.PlaceLemmas.{changed_rest}
-use Rattle.review_rules.specs.Rules.{policy_row, review_row, certificate_row, missing_of, Outcome, Repeated, Refused, Accepted, step, accepted, asker, name_of, first_broken, own_rules, changed, kept_row, kind_of, target_of, reply_of}
+use Rattle.review_rules.specs.Rules.{policy_row, review_row, certificate_row, Outcome, Repeated, Refused, Accepted, step, accepted, asker, name_of, first_broken, own_rules, changed, kept_row, kind_of, target_of, reply_of}
 use Rattle.review_rules.specs.Judging.{IsCommand, IsRequest, NamesAscend, HasHostName, NamesProperty}
 use Rattle.review_rules.specs.Laws.{IsAccepted, tables_after}
-use Rattle.review_rules.proofs.AcceptLemmas.{accepted_passes, passed_accepts, both_none, all_none, review_there, review_open, review_current, base_current, few_reviews, good_approvals}
+use Rattle.review_rules.proofs.AcceptLemmas.{accepted_passes, passed_accepts, all_none, review_there, review_open, review_current, base_current, few_reviews, good_approvals}
 use Rattle.review_rules.proofs.RuleLemmas.{length-map}
 
 -- what the rules leave of each command

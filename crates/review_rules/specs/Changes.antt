@@ -1,9 +1,9 @@
 -- What an accepted command changes in the tables, as one change.
-use Rattle.std.specs.Prelude.{ℕ, ◌+◌, ◌≡◌, ◌≤◌, Bool, true, false, List, [], ◌∷◌, ◌++◌, length, map, sum_by, Option, Some, None}
+use Rattle.std.specs.Prelude.{ℕ, ◌+◌, ◌≡◌, ◌≤◌, false, List, [], ◌∷◌, ◌++◌, length, map, sum_by, Some, None}
 use Rattle.std.specs.Ordering.{nat_cmp}
 use Rattle.desk_tables.specs.Order.{put, Ascends, texts_cmp, numbered_cmp}
-use Rattle.desk_tables.specs.Tables.{kept_key, approval_key, certificate_key, file_key, review_key, policy_key, kept_of, review_of, has_approved, head_of, version_of, bytes_of, certificate_of, file_row, at_review, merged, withdrawn}
-use Rattle.desk_tables.specs.Valid.{IsUpTo, IsValid}
+use Rattle.desk_tables.specs.Tables.{kept_key, approval_key, certificate_key, file_key, review_key, policy_key, kept_of, review_of, has_approved, head_of, bytes_of, certificate_of, file_row, at_review, merged, withdrawn}
+use Rattle.desk_tables.specs.Valid.{IsValid}
 use Rattle.desk_tables.specs.declared.rows.Rows.{Rows}
 use Rattle.desk_tables.specs.declared.rows.FileRow.{FileRow}
 use Rattle.desk_tables.specs.declared.rows.ReviewRow.{ReviewRow}

@@ -1,15 +1,13 @@
 -- What a request has to be, and what a judge answers.
-use Rattle.std.specs.Prelude.{ℕ, ◌+◌, ◌≡◌, ◌≢◌, ◌≤◌, ◌<◌, ◌&&◌, nat_le, Bool, true, List, [], length, map, Option, Some, None, unwrap_or}
+use Rattle.std.specs.Prelude.{ℕ, ◌≡◌, ◌≢◌, ◌≤◌, ◌<◌, ◌&&◌, nat_le, Bool, true, List, [], length, map, Option, Some, None, unwrap_or}
 use Rattle.std.specs.List.{All, list_all}
 use Rattle.net_types.specs.Names.{is_host, is_name_byte}
 use Rattle.net_types.specs.declared.config.SourceFile.{SourceFile}
-use Rattle.net_types.specs.declared.refusals.ReadRefusal.{ReadRefusal}
 use Rattle.net_types.specs.declared.refusals.ReadRefusal.TheVariants.{NoMemory as NoReadMemory}
 use Rattle.net_types.specs.declared.refusals.NetRefusal.{NetRefusal}
 use Rattle.net_types.specs.declared.refusals.NetRefusal.TheVariants.{SameHost, SameAs, SameAddress, NoMemory as NoNetMemory}
 use Rattle.net_types.specs.declared.refusals.BundleRefusal.{BundleRefusal}
 use Rattle.net_types.specs.declared.refusals.BundleRefusal.TheVariants.{InFile, InNet, NoMemory as NoBundleMemory}
-use Rattle.net_types.specs.declared.refusals.FormRefusal.{FormRefusal}
 use Rattle.net_types.specs.declared.refusals.FormRefusal.TheVariants.{NoMemory as NoFormMemory}
 use Rattle.desk_tables.specs.Order.{text_cmp, Ascends}
 use Rattle.desk_tables.specs.Tables.{files_of, merged_of, head_of, book_of, source_of}
@@ -18,9 +16,9 @@ use Rattle.review_rules.specs.State.{State}
 use Rattle.review_rules.specs.Rules.{ask_of, missing_of, Outcome, step}
 use Rattle.review_rules.specs.declared.requests.Request.{Request}
 use Rattle.review_rules.specs.declared.requests.Command.{Command}
-use Rattle.review_rules.specs.declared.requests.Command.TheVariants.{SetPolicy, Submit, Certify, Approve, Merge, Withdraw}
+use Rattle.review_rules.specs.declared.requests.Command.TheVariants.{SetPolicy, Submit, Certify}
 use Rattle.review_rules.specs.declared.requests.Ask.{Ask}
-use Rattle.review_rules.specs.declared.requests.Ask.TheVariants.{Nothing, Bundle, Run, Book}
+use Rattle.review_rules.specs.declared.requests.Ask.TheVariants.{Nothing}
 use Rattle.review_rules.specs.declared.requests.BundleSide.{BundleSide}
 use Rattle.review_rules.specs.declared.requests.BundleSide.TheVariants.{Base, New}
 use Rattle.review_rules.specs.declared.requests.JudgeAnswer.{JudgeAnswer}

@@ -1,6 +1,6 @@
 -- What is true of the machine.
-use Rattle.std.specs.Prelude.{ℕ, ◌≡◌, ◌≤◌, ◌+◌, ◌↔◌, ◌⊎◌, true, List, [], ◌∷◌, Option, Some, None}
-use Rattle.desk_tables.specs.Tables.{user_of, kept_of, review_of, certificate_of, approvals_of, head_of, version_of, needed, bytes_of}
+use Rattle.std.specs.Prelude.{ℕ, ◌≡◌, ◌≤◌, ◌+◌, ◌↔◌, ◌⊎◌, true, List, [], ◌∷◌, Some, None}
+use Rattle.desk_tables.specs.Tables.{kept_of, review_of, certificate_of, approvals_of, head_of, version_of, needed, bytes_of}
 use Rattle.desk_tables.specs.Valid.{IsValid}
 use Rattle.desk_tables.specs.declared.rows.User.{User}
 use Rattle.desk_tables.specs.declared.rows.Rows.{Rows}

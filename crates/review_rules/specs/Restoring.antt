@@ -1,5 +1,5 @@
 -- What stored rows and users make: a desk of them, or the first row that is not valid.
-use Rattle.std.specs.Prelude.{ℕ, ◌≡◌, List, Option, Some, None, Result, Ok, Err}
+use Rattle.std.specs.Prelude.{◌≡◌, List, Some, None, Result, Ok, Err}
 use Rattle.desk_tables.specs.declared.rows.Rows.{Rows}
 use Rattle.desk_tables.specs.declared.rows.User.{User}
 use Rattle.stored_rows.specs.Stored.{first_bad_row}

@@ -1,5 +1,5 @@
 -- What the machine decides on a request: the rules of each command, in order, and the tables after an accepted one.
-use Rattle.std.specs.Prelude.{ℕ, ◌+◌, ◌-◌, ◌*◌, ◌^◌, ◌≡◌, Bool, true, false, List, [], ◌∷◌, ◌++◌, ◌&&◌, ◌||◌, ◌==◌, Option, Some, None, length, map, sum_by, nat_lt, nat_le, min, if◌then◌else◌, codes, not}
+use Rattle.std.specs.Prelude.{ℕ, ◌+◌, ◌-◌, ◌^◌, ◌≡◌, Bool, true, false, List, [], ◌∷◌, ◌++◌, ◌&&◌, ◌||◌, ◌==◌, Option, Some, None, length, map, sum_by, nat_lt, nat_le, min, if◌then◌else◌, codes, not}
 use Rattle.std.specs.Str.{bytes_eq}
 use Rattle.std.specs.Fmt.{decimal}
 use Rattle.std.specs.Ordering.{nat_cmp}
@@ -21,9 +21,7 @@ use Rattle.review_rules.specs.declared.requests.Ask.{Ask}
 use Rattle.review_rules.specs.declared.requests.Ask.TheVariants.{Nothing, Bundle, Run, Book as AskBook}
 use Rattle.review_rules.specs.declared.requests.JudgeAnswer.{JudgeAnswer}
 use Rattle.review_rules.specs.declared.requests.JudgeAnswer.TheVariants.{Refused as AnswerRefused, BookRefused, Limit, Judged}
-use Rattle.review_rules.specs.declared.requests.Lack.{Lack}
 use Rattle.review_rules.specs.declared.requests.Lack.TheVariants.{NotRun, Property}
-use Rattle.review_rules.specs.declared.requests.PolicyFault.{PolicyFault}
 use Rattle.review_rules.specs.declared.requests.PolicyFault.TheVariants.{Approvals, Book}
 use Rattle.review_rules.specs.declared.requests.Decision.{Decision}
 use Rattle.review_rules.specs.declared.requests.Decision.TheVariants.{Repeated as DecisionRepeated, Accepted as DecisionAccepted, Refused as DecisionRefused}

@@ -8,8 +8,8 @@ ghost use Rattle.review_rules.specs.Rules.{kept_under};
 
 use crate::Request;
 use desk_tables::{
-    ApprovalRow, CertificateRow, FileRow, KeptRow, PolicyRow, ReviewRow, User, approvals_in,
-    approvals_to, certificate_in, files_in, is_approved_by, item, kept_in, kept_place, policy_in,
+    ApprovalRow, CertificateRow, FileRow, KeptRow, KeptTable, PolicyRow, ReviewRow, User,
+    approvals_in, approvals_to, certificate_in, files_in, is_approved_by, item, policy_in,
     review_in, user_with,
 };
 use net_types::Text;
@@ -24,7 +24,7 @@ pub struct Desk {
     pub(crate) files: Vec<FileRow>,
     pub(crate) approvals: Vec<ApprovalRow>,
     pub(crate) certificates: Vec<CertificateRow>,
-    pub(crate) kept: Vec<KeptRow>,
+    pub(crate) kept: KeptTable,
     // The numbers of the merged reviews, in the order of their heads.
     pub(crate) heads: Vec<u64>,
     pub(crate) bytes: u128,
@@ -46,7 +46,7 @@ impl Model for Desk {
         × (vec_len d.files + d.spare ≤ vec_capacity d.files)
         × (vec_len d.approvals + d.spare ≤ vec_capacity d.approvals)
         × (vec_len d.certificates + d.spare ≤ vec_capacity d.certificates)
-        × (vec_len d.kept + d.spare ≤ vec_capacity d.kept)
+        × (d.spare ≤ d.kept.room)
         × (vec_len d.heads + d.spare ≤ vec_capacity d.heads) };
 }
 
@@ -93,7 +93,7 @@ impl Desk {
         if row == 0 {
             return None;
         }
-        item(self.kept.as_slice(), (row - 1) as usize)
+        self.kept.row((row - 1) as usize)
     }
 
     /// The review of the number.
@@ -227,7 +227,7 @@ impl Desk {
     pub fn kept_by(&self, user: &[u8], key: &[u8]) -> Option<&KeptRow>
         ensures { option_copied result ≡ kept_of self.now.state.tables user.now key.now }
     {
-        kept_in(self.kept.as_slice(), user, key)
+        self.kept.find(user, key)
     }
 
     /// The bytes kept where so many are taken away and so many added. The number stops at the end of its type; where
@@ -255,12 +255,7 @@ impl Desk {
     pub fn number(&self, row: &KeptRow) -> u64
         ensures { result ≡ number_of self.now.state.tables row.now }
     {
-        kept_place(
-            self.kept.as_slice(),
-            row.user.as_bytes(),
-            row.key.as_bytes(),
-        ) as u64
-            + 1
+        self.kept.place(row.user.as_bytes(), row.key.as_bytes()) as u64 + 1
     }
 }
 

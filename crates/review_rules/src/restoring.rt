@@ -6,7 +6,7 @@ ghost use Rattle.stored_rows.specs.Stored.{first_bad_row};
 ghost use Rattle.review_rules.specs.Restoring.{Restores};
 
 use crate::Desk;
-use desk_tables::{Rows, User};
+use desk_tables::{KeptTable, Rows, User};
 use net_types::{List, NoMemory};
 use std::alloc::Global;
 use stored_rows::{bytes_of, first_bad_row, index_of};
@@ -27,6 +27,7 @@ fn valid_desk(alloc: Global, users: List<User>, rows: Rows) -> Result<Desk, NoMe
 {
     let bytes = bytes_of(&rows);
     let heads = index_of(alloc, rows.reviews.as_slice())?;
+    let kept = KeptTable::of(alloc, rows.kept)?;
     Ok(Desk {
         users: users.into_vec(),
         policies: rows.policies.into_vec(),
@@ -34,7 +35,7 @@ fn valid_desk(alloc: Global, users: List<User>, rows: Rows) -> Result<Desk, NoMe
         files: rows.files.into_vec(),
         approvals: rows.approvals.into_vec(),
         certificates: rows.certificates.into_vec(),
-        kept: rows.kept.into_vec(),
+        kept,
         heads,
         bytes,
         spare: 0,

@@ -8,7 +8,7 @@ ghost use Rattle.review_rules.specs.Changes.{rows_of, heads_of, made, CanBeMade,
 use crate::{Change, ChangeKind, Desk};
 use desk_tables::{
     ApprovalRow, CertificateRow, FileRow, KeptRow, PolicyRow, ReviewRow, add_approval, add_files,
-    add_kept, add_policy, add_review, merge_review, put_certificate, withdraw_review,
+    add_policy, add_review, merge_review, put_certificate, withdraw_review,
 };
 use net_types::{List, NoMemory};
 use std::alloc::Global;
@@ -87,7 +87,7 @@ impl Desk {
         self.spare = 0;
         self.bytes = bytes;
         add_policy(&mut self.policies, row);
-        add_kept(&mut self.kept, kept);
+        self.kept.put(kept);
     }
 
     // Makes the change of a submission.
@@ -102,7 +102,7 @@ impl Desk {
         self.bytes = bytes;
         add_review(&mut self.reviews, row);
         add_files(&mut self.files, files);
-        add_kept(&mut self.kept, kept);
+        self.kept.put(kept);
     }
 
     // Makes the change of a command to certify.
@@ -116,7 +116,7 @@ impl Desk {
         self.spare = 0;
         self.bytes = bytes;
         put_certificate(&mut self.certificates, row);
-        add_kept(&mut self.kept, kept);
+        self.kept.put(kept);
     }
 
     // Makes the change of an approval.
@@ -130,7 +130,7 @@ impl Desk {
         self.spare = 0;
         self.bytes = bytes;
         add_approval(&mut self.approvals, row);
-        add_kept(&mut self.kept, kept);
+        self.kept.put(kept);
     }
 
     // Makes the change of a merge.
@@ -145,7 +145,7 @@ impl Desk {
         self.bytes = bytes;
         merge_review(&mut self.reviews, review, head);
         add_head(&mut self.heads, review);
-        add_kept(&mut self.kept, kept);
+        self.kept.put(kept);
     }
 
     // Makes the change of a withdrawal.
@@ -159,7 +159,7 @@ impl Desk {
         self.spare = 0;
         self.bytes = bytes;
         withdraw_review(&mut self.reviews, review);
-        add_kept(&mut self.kept, kept);
+        self.kept.put(kept);
     }
 }
 

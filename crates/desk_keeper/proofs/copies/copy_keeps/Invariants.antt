@@ -1,5 +1,5 @@
 use Rattle.std.proofs.Common.{◌≡◌, ◌++◌, drop}
 use Rattle.desk_keeper.proofs.copies.copy_keeps.Given as goal
 
-abbrev pub invariant-loop-row : goal.invariant-loop-row
-invariant-loop-row l = l.all ++ drop l.row-index l.rows ≡ l.rows
+abbrev pub invariant-loop-i : goal.invariant-loop-i
+invariant-loop-i l = l.all ++ drop l.i l.table.items ≡ l.table.items

@@ -1,4 +1,4 @@
-use Rattle.std.proofs.Common.{rules, nat_lt}
+use Rattle.std.proofs.Common.{rules}
 use Rattle.std.proofs.lemmas.List.Sorted.{IsPartitionPoint-from_clause}
 use Rattle.desk_tables.specs.Order.{before, numbered_cmp}
 use Rattle.desk_tables.specs.Tables.{file_key}

@@ -1,4 +1,4 @@
-use Rattle.std.proofs.Common.{◌≡◌, ◌∙◌, sym, rules}
+use Rattle.std.proofs.Common.{◌∙◌}
 use Rattle.desk_keeper.proofs.PutLemmas.{put_file_at, put_file_over}
 use Rattle.desk_keeper.proofs.puts.put_file.Goals as goal
 

@@ -1,6 +1,6 @@
-use Rattle.std.proofs.Common.{◌≡◌, ap, sym, subst, ◌∙◌, rules}
+use Rattle.std.proofs.Common.{◌≡◌, ap, sym, ◌∙◌}
 use Rattle.review_rules.specs.State.{State}
-use Rattle.review_rules.specs.Rules.{reply_of, Accepted, step}
+use Rattle.review_rules.specs.Rules.{Accepted}
 use Rattle.review_rules.specs.Changes.{made}
 use Rattle.desk_keeper.proofs.KeepingLemmas.{can_take, takes, told_made, told_agrees}
 use Rattle.desk_keeper.proofs.store.accept.Goals as goal

@@ -1,4 +1,4 @@
-use Rattle.std.proofs.Common.{◌≡◌, Some, sym, ◌∙◌, ap}
+use Rattle.std.proofs.Common.{sym, ◌∙◌, ap}
 use Rattle.review_rules.specs.Rules.{early, late, or_else, first_broken}
 use Rattle.review_rules.proofs.RuleLemmas.{broken_parts}
 use Rattle.review_rules.proofs.deciding.broken.Goals as goal

@@ -1,4 +1,4 @@
-use Rattle.std.proofs.Common.{◌+◌, ◌-◌, sym, ◌∙◌, ap, subst, rules}
+use Rattle.std.proofs.Common.{◌+◌, ◌-◌, sym, ◌∙◌, ap}
 use Rattle.desk_tables.specs.Tables.{bytes_of}
 use Rattle.review_rules.proofs.RuleLemmas.{bytes_accepted}
 use Rattle.review_rules.specs.Rules.{over, cost_of, freed_of}

@@ -1,4 +1,4 @@
-use Rattle.std.proofs.Common.{◌≡◌, length, refl, subst, sym, rules}
+use Rattle.std.proofs.Common.{◌≡◌, length, refl, subst, rules}
 use Rattle.desk_tables.specs.declared.rows.Rows.{Rows}
 use Rattle.desk_tables.specs.Tables.{head_of}
 use Rattle.stored_rows.specs.Index.{Indexes}
@@ -7,8 +7,8 @@ use Rattle.review_rules.proofs.restoring.valid_desk.Goals as goal
 
 pub invariant_of-result : goal.invariant_of-result
 invariant_of-result c =
-    let u : Rows = record { policies = c.into_vec-2.result.items; reviews = c.into_vec-3.result.items; files = c.into_vec-4.result.items; approvals = c.into_vec-5.result.items; certificates = c.into_vec-6.result.items; kept = c.into_vec-7.result.items } in
-    let same : u ≡ c.args.rows = rw (c.into_vec-2.ensures, c.into_vec-3.ensures, c.into_vec-4.ensures, c.into_vec-5.ensures, c.into_vec-6.ensures, c.into_vec-7.ensures) refl in
+    let u : Rows = record { policies = c.into_vec-2.result.items; reviews = c.into_vec-3.result.items; files = c.into_vec-4.result.items; approvals = c.into_vec-5.result.items; certificates = c.into_vec-6.result.items; kept = c.in_ok-kept.kept.items } in
+    let same : u ≡ c.args.rows = rw (c.into_vec-2.ensures, c.into_vec-3.ensures, c.into_vec-4.ensures, c.into_vec-5.ensures, c.into_vec-6.ensures, c.in_ok-kept.ensures) refl in
     let numbers = c.in_ok-heads.heads.items in
     let long : length numbers ≡ head_of c.args.rows = search rules in
     let index : Indexes numbers c.args.rows.reviews = subst (Indexes numbers) c.as_slice.ensures c.in_ok-heads.ensures.index in

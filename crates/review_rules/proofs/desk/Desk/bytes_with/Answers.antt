@@ -1,4 +1,3 @@
-use Rattle.std.proofs.Common.{◌≡◌, rules}
 use Rattle.review_rules.specs.Changes.{kind_cost}
 use Rattle.review_rules.proofs.TakeLemmas.{bytes_exact}
 use Rattle.review_rules.proofs.desk.Desk.bytes_with.Goals as goal
