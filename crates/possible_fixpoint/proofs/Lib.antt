@@ -18,4 +18,5 @@ pub mod NetLemmas
 pub mod NoteLemmas
 pub mod GatherLemmas
 pub mod WorkLemmas
+pub mod ArrivalLemmas
 pub mod PhaseLemmas

@@ -1,4 +1,5 @@
 pub mod Flow
+pub mod Arrivals
 pub mod Possible
 pub mod Climbing
 pub mod Held

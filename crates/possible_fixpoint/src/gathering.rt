@@ -3,6 +3,7 @@
 ghost use Rattle.std.specs.Prelude.{◌≡◌, ◌<◌, ◌≤◌, ◌+◌, ◌*◌, true};
 ghost use Rattle.abstract_route.specs.Rows.{IsBelow, IsRow, row_at};
 ghost use Rattle.flow_board.specs.Pass.{raised as raised_pass};
+ghost use Rattle.possible_fixpoint.specs.Arrivals.{AreArrivals};
 ghost use Rattle.possible_fixpoint.specs.Marks.{number};
 ghost use Rattle.possible_fixpoint.specs.Notebook.{Grows, IsKept};
 ghost use Rattle.possible_fixpoint.specs.Possible.{possible};
@@ -10,10 +11,11 @@ ghost use Rattle.possible_fixpoint.specs.Standing.{Solvable};
 ghost use Rattle.possible_fixpoint.specs.Working.{Gathers, Grown, Works};
 
 use crate::analysis::Analysis;
+use crate::arrivals::first_from;
 use crate::notes::Notes;
 use abstract_route::{Row, is_below};
 use flow_board::{Board, Seat};
-use net_types::Arc;
+use net_types::{Arc, Bits64};
 
 /// Joins a row, below that of the least solution, into a router's row.
 pub(crate) fn add<A: Analysis>(analysis: &A, notes: &mut Notes, router: u8, row: &Row) -> bool
@@ -142,43 +144,53 @@ fn visit_both<A: Analysis>(
     (seat, first | second)
 }
 
-// Takes what the arcs into a router give.
+// Takes what the arcs into a router give; `sets` has the links of such arcs.
 fn visit_all<A: Analysis>(
     analysis: &A,
     board: &Board,
     mut seat: Seat,
     notes: &mut Notes,
+    sets: &[Bits64; 64],
     router: u8,
 ) -> (Seat, bool)
     requires solvable { Solvable (A.flow analysis.now) }
     requires mine { seat.board ≡ board.now.name }
     requires count { board.now.count ≡ (A.flow analysis.now).routers }
     requires works { Works (A.flow analysis.now) seat }
+    requires sets { AreArrivals (A.flow analysis.now) (2 * (A.flow analysis.now).links) sets.now }
+    requires within { router < (A.flow analysis.now).routers }
     requires kept { IsKept (A.flow analysis.now) notes.old }
     ensures same { result.0 ≡ seat }
     ensures gathers { Gathers (A.flow analysis.now) seat.start router 0 (2 * (A.flow analysis.now).links) notes.old notes.new result.1 }
 {
+    let set = sets[usize::from(router)];
+    let links = analysis.links();
     let mut grew = false;
-    for link in 0..analysis.links() {
+    let mut link = first_from(set, 0);
+    while link < links {
         let (next, more) = visit_both(analysis, board, seat, notes, router, link);
         seat = next;
         grew = grew | more;
+        link = first_from(set, link + 1);
     }
     (seat, grew)
 }
 
-/// Gathers a router's local row and what the arcs into it give, and says whether there was anything new.
+/// Gathers a router's local row and what the arcs into it give, and says whether there was anything new. In `sets` are for
+/// each router the links of such arcs.
 pub(crate) fn gather<A: Analysis>(
     analysis: &A,
     board: &Board,
     seat: Seat,
     notes: &mut Notes,
+    sets: &[Bits64; 64],
     router: u8,
 ) -> (Seat, bool)
     requires solvable { Solvable (A.flow analysis.now) }
     requires mine { seat.board ≡ board.now.name }
     requires count { board.now.count ≡ (A.flow analysis.now).routers }
     requires works { Works (A.flow analysis.now) seat }
+    requires sets { AreArrivals (A.flow analysis.now) (2 * (A.flow analysis.now).links) sets.now }
     requires within { router < (A.flow analysis.now).routers }
     requires kept { IsKept (A.flow analysis.now) notes.old }
     ensures same { result.0 ≡ seat }
@@ -186,7 +198,7 @@ pub(crate) fn gather<A: Analysis>(
     ensures gathers { Gathers (A.flow analysis.now) seat.start router 0 (2 * (A.flow analysis.now).links) notes.old notes.new result.1 }
 {
     let begun = begin(analysis, notes, router);
-    let (seat, grew) = visit_all(analysis, board, seat, notes, router);
+    let (seat, grew) = visit_all(analysis, board, seat, notes, sets, router);
     (seat, begun | grew)
 }
 

@@ -18,6 +18,7 @@
 
 mod alive;
 mod analysis;
+mod arrivals;
 mod crew;
 mod ending;
 mod feeding;

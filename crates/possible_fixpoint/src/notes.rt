@@ -6,7 +6,7 @@ ghost use Rattle.possible_fixpoint.specs.Marks.{IsNoted, has_arc, number, with_a
 ghost use Rattle.possible_fixpoint.specs.Notebook.{HasSameMarks, IsBlank, with_row};
 
 use crate::marks::ArcSet;
-use abstract_route::{Row, bottom_value, is_below, join};
+use abstract_route::{BOTTOM, Row, is_below, join};
 use net_types::{Arc, Bits64};
 
 /// A worker's notes of one phase.
@@ -24,6 +24,15 @@ pub(crate) struct Notes {
     pub begun: Bits64,
 }
 
+// Nothing raised, and no arc asked: copied whole, which is far faster than to write each row.
+const BLANK: Notes = Notes {
+    rows: [BOTTOM; 64],
+    asked_at: [BOTTOM; 128],
+    asked: ArcSet::EMPTY,
+    gave: ArcSet::EMPTY,
+    begun: Bits64::EMPTY,
+};
+
 // The place of an arc in the order of links, up before down.
 fn place_of(arc: Arc) -> usize
     ensures { result ≡ number arc }
@@ -40,13 +49,7 @@ impl Notes {
     pub(crate) fn new() -> Notes
         ensures { IsBlank result }
     {
-        Notes {
-            rows: [bottom_value(); 64],
-            asked_at: [bottom_value(); 128],
-            asked: ArcSet::EMPTY,
-            gave: ArcSet::EMPTY,
-            begun: Bits64::EMPTY,
-        }
+        BLANK
     }
 
     /// The row of a router.

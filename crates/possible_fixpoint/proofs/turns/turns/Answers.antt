@@ -1,5 +1,5 @@
 use Rattle.possible_fixpoint.proofs.WorkLemmas.{turns_fall, work_begins, work_ends, work_on}
-use Rattle.possible_fixpoint.proofs.turns.work.Goals as goal
+use Rattle.possible_fixpoint.proofs.turns.turns.Goals as goal
 
 pub loop-notes-init : goal.loop-notes-init
 loop-notes-init g c =
