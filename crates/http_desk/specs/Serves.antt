@@ -66,6 +66,10 @@ abbrev pub HasServedCause : ℕ → ℕ → Served → Type 0
 HasServedCause before now (Replied code) = now ≡ before
 HasServedCause before now DoorFault = Rose before now
 
+-- a count of faults stands, or rose
+abbrev pub StandsOrRose : ℕ → ℕ → Type 0
+StandsOrRose before now = (now ≡ before) ⊎ Rose before now
+
 -- the state is as before, or the next one of some request that is accepted
 abbrev pub Moves : Judging → State → State → Type 0
 Moves j s next = (next ≡ s) ⊎ ((r : Request) × (tables : Rows) × (reply : List ℕ) × IsRequest r × (judged j s r ≡ Accepted tables reply) × (next ≡ record { users = s.users; tables = tables }))

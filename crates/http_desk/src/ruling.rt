@@ -11,7 +11,7 @@ ghost use Rattle.desk_replies.specs.Replies.{http_code};
 ghost use Rattle.desk_replies.specs.RuleWords.{rule_body};
 ghost use Rattle.http_desk.specs.Answer.{refused_side, new_files, side_files, broken, told, shown, shown_to, about_review, about_report};
 ghost use Rattle.http_desk.specs.Ruled.{ruling_code, ruling_media, IsRuling, RuledAs};
-ghost use Rattle.http_desk.specs.Serves.{Moves};
+ghost use Rattle.http_desk.specs.Serves.{Moves, StandsOrRose};
 
 use desk_keeper::{DeskStore, Keeper, Performed};
 use desk_replies::{Media, head_body, http_code, review_body, rule_body, rule_code};
@@ -209,6 +209,7 @@ fn rule_on_command<K: Keeper, J: Judge, R: Threads + Sync>(
     ensures stays { K.opened keeper.new ≡ K.opened keeper.old }
     ensures judge { J.meaning judge.new ≡ J.meaning judge.old }
     ensures moved { Moves (J.meaning judge.old) store.old.state store.new.state }
+    ensures counted { StandsOrRose (K.faults keeper.old) (K.faults keeper.new) }
     ensures ruled { RuledAs (J.meaning judge.old) store.old.state (Ok (Asked.Command request)) (K.faults keeper.old) (K.faults keeper.new) result store.new.state }
 {
     match store.perform(rt, alloc, keeper, judge, &request) {
@@ -237,6 +238,7 @@ pub fn rule_on<K: Keeper, J: Judge, R: Threads + Sync>(
     ensures stays { K.opened keeper.new ≡ K.opened keeper.old }
     ensures judge { J.meaning judge.new ≡ J.meaning judge.old }
     ensures moved { Moves (J.meaning judge.old) store.old.state store.new.state }
+    ensures counted { StandsOrRose (K.faults keeper.old) (K.faults keeper.new) }
     ensures ruled { RuledAs (J.meaning judge.old) store.old.state asked (K.faults keeper.old) (K.faults keeper.new) result store.new.state }
 {
     match asked {

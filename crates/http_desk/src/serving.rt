@@ -5,7 +5,7 @@ ghost use Rattle.outside.specs.Sink.{HasCause};
 ghost use Rattle.doors.specs.Door.{Told, GivesAll};
 ghost use Rattle.desk_keeper.specs.Keeping.{Agrees};
 ghost use Rattle.http_desk.specs.Ruled.{ruling_text, RepliesWith};
-ghost use Rattle.http_desk.specs.Serves.{Converses, Serves, HasServedCause, Moves};
+ghost use Rattle.http_desk.specs.Serves.{Converses, Serves, HasServedCause, Moves, StandsOrRose};
 
 use crate::ruling::{Ruling, rule_on, ruling_code};
 use desk_keeper::{DeskStore, Keeper};
@@ -72,6 +72,7 @@ fn converse<D: Door, K: Keeper, J: Judge, R: Threads + Sync>(
     ensures stays { K.opened keeper.new ≡ K.opened keeper.old }
     ensures judge { J.meaning judge.new ≡ J.meaning judge.old }
     ensures moved { Moves (J.meaning judge.old) store.old.state store.new.state }
+    ensures counted { StandsOrRose (K.faults keeper.old) (K.faults keeper.new) }
     ensures kept { D.faults door.old ≤ D.faults door.new }
     ensures cause { HasServedCause (D.faults door.old) (D.faults door.new) result }
     ensures opened { D.is_open door.new ≡ D.is_open door.old }
@@ -106,6 +107,7 @@ pub fn serve_one<D: Door, K: Keeper, J: Judge, R: Threads + Sync>(
     ensures stays { K.opened keeper.new ≡ K.opened keeper.old }
     ensures judge { J.meaning judge.new ≡ J.meaning judge.old }
     ensures moved { Moves (J.meaning judge.old) store.old.state store.new.state }
+    ensures counted { StandsOrRose (K.faults keeper.old) (K.faults keeper.new) }
     ensures kept { D.faults door.old ≤ D.faults door.new }
     ensures cause { HasServedCause (D.faults door.old) (D.faults door.new) result }
     ensures opened { D.is_open door.new ≡ D.is_open door.old }

@@ -9,7 +9,7 @@ use Rattle.review_rules.specs.Judging.{IsRequest, Judging, judged}
 use Rattle.review_rules.specs.Laws.{IsAccepted, run, next, tables_after}
 use Rattle.review_rules.specs.declared.requests.Request.{Request}
 use Rattle.http_desk.specs.declared.serving.Served.{Served}
-use Rattle.http_desk.specs.Serves.{Serves, HasServedCause, Moves, after}
+use Rattle.http_desk.specs.Serves.{Serves, HasServedCause, Moves, StandsOrRose, after}
 use Rattle.serving.specs.Turns.{Moment, AreTurns, none, behind, after_all, HaveTurns, ServesNext, ServesAll, AreAccepted, Comes}
 
 -- ---- lists
@@ -62,13 +62,14 @@ pub served_next : (j : Judging) (a b : Moment) (t : Told) (between told : Option
     → Begins (ending t) t.coming between
     → ((u : Told) (input : List ℕ) → between ≡ Some u → u.talk ≡ Some (record { left = input; given = [] }) → Serves j a.state u input a.keeper b.keeper served b.state told)
     → HasServedCause a.door b.door served
+    → StandsOrRose a.keeper b.keeper
     → ServesNext {E = Failed} j a t (Ok tt) b told
-served_next j a b t between told served begins serves cause = go t.coming refl begins where
+served_next j a b t between told served begins serves cause counted = go t.coming refl begins where
   go : (xs : List (List ℕ)) → t.coming ≡ xs → Begins (ending t) xs between → ServesNext {E = Failed} j a t (Ok tt) b told
   go [] e absurdly = absurd absurdly
   go (x ∷ xs) e began =
       let it = serves _ x began refl in
-      (x, it.0, xs, e, (served, it.1, cause), it.2 ∙ ap Some (next_told t x it.0 xs e))
+      (x, it.0, xs, e, (served, it.1, cause, counted), it.2 ∙ ap Some (next_told t x it.0 xs e))
 
 -- ---- many turns
 

@@ -1,4 +1,4 @@
--- Conversations, one after the other.
+-- Conversations, one after the other. What is meant by them is this project's own.
 use Rattle.std.specs.Prelude.{ℕ, ◌≡◌, ◌<◌, ◌≤◌, List, [], ◌∷◌, ◌++◌, Option, None, Some, Result, Ok, Err, length, take, drop}
 use Rattle.outside.specs.Faults.{Rose}
 use Rattle.doors.specs.Door.{Told, ending}
@@ -7,7 +7,7 @@ use Rattle.review_rules.specs.Judging.{IsRequest, Judging, judged}
 use Rattle.review_rules.specs.Laws.{IsAccepted, next, run}
 use Rattle.review_rules.specs.declared.requests.Request.{Request}
 use Rattle.http_desk.specs.declared.serving.Served.{Served}
-use Rattle.http_desk.specs.Serves.{IsServed, HasServedCause}
+use Rattle.http_desk.specs.Serves.{IsServed, HasServedCause, StandsOrRose}
 
 -- between two conversations: the state of the desk, and the counts of faults of the keeper and of the door
 pub record Moment : Type 0 where
@@ -18,7 +18,7 @@ pub record Moment : Type 0 where
 -- a conversation of this input was served, with this given to it, between two moments
 abbrev pub IsTurn : Judging → Moment → List ℕ → List ℕ → Moment → Type 0
 IsTurn j a input given b =
-    (served : Served) × IsServed j a.state input a.keeper b.keeper served b.state given × HasServedCause a.door b.door served
+    (served : Served) × IsServed j a.state input a.keeper b.keeper served b.state given × HasServedCause a.door b.door served × StandsOrRose a.keeper b.keeper
 
 -- conversations of these inputs were served, one after the other, with this given to each: every one begins at the moment
 -- at which the one before it ended

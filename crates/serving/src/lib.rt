@@ -6,6 +6,8 @@
 //! each is that of `http_desk`. Not: how long one takes.
 #![tactic(auto)]
 
+mod laws;
 mod serving;
 
+pub use laws::{law_of_accepted_commands, law_of_calm_turns};
 pub use serving::serve_all;

@@ -21,3 +21,4 @@ returns-clause-told g c = λ t e.
     (c.in_ok-next.ensures.told t e)
     (λ u input told talk. c.serve_one-served.ensures.told u input told talk)
     (subst (λ (n : ℕ). HasServedCause n (g.D.Door.faults after.door) served) c.in_ok-next.ensures.cause c.serve_one-served.ensures.cause)
+    c.serve_one-served.ensures.counted
