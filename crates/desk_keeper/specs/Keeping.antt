@@ -59,7 +59,8 @@ abbrev pub IsOpenOrShut : Option (List ℕ) → List ℕ → Type 0
 IsOpenOrShut shown name = (shown ≡ Some name) ⊎ (shown ≡ None)
 
 abbrev pub Starts : List User → Option Rows → Option (List ℕ) → List ℕ → ℕ → ℕ → Result Held StartRefusal → Type 0
-Starts users told shown name before now (Ok store) = (store.state.users ≡ users) × Agrees told store.state.tables × (shown ≡ Some name) × (now ≡ before)
+Starts users told shown name before now (Ok store) =
+    (store.state.users ≡ users) × Agrees told store.state.tables × (first_bad_row store.state.tables ≡ None) × (shown ≡ Some name) × (now ≡ before)
 Starts users told shown name before now (Err StartFailed) = Rose before now × IsOpenOrShut shown name
 Starts users told shown name before now (Err (BadRow table row)) = BadWhereTold told table row × (shown ≡ Some name) × (now ≡ before)
 Starts users told shown name before now (Err NoStartMemory) = (now ≡ before) × IsOpenOrShut shown name

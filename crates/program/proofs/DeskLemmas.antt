@@ -7,6 +7,7 @@ use Rattle.doors.specs.Door.{Told}
 use Rattle.desk_tables.specs.declared.rows.Rows.{Rows}
 use Rattle.desk_tables.specs.declared.rows.User.{User}
 use Rattle.review_rules.specs.State.{State, Held}
+use Rattle.stored_rows.specs.Stored.{first_bad_row}
 use Rattle.desk_keeper.specs.Keeping.{Agrees}
 use Rattle.desk_judge.specs.Judged.{meant}
 use Rattle.serving.specs.Turns.{Comes, HaveTurns, HasNextCause, Moment, after_all, none, AreTurns}
@@ -51,7 +52,10 @@ pub served_some : (serving : Serving) (s now : State) (tables tables_now : Optio
     → ServesFrom {E = Failed} serving s now tables tables_now keeper keeper_now door door_now faults faults_now (Err failed)
 served_some serving s now tables tables_now keeper keeper_now door mid door_now faults begun faults_now failed any same opens serves rose comes agrees = inr (go door refl) where
   Some_of : Type 0
-  Some_of = (last : Moment) × (n : ℕ) × (n < serving.count) × HasTurns serving (record { state = s; keeper = keeper; door = faults }) last tables_now door door_now n × (last.keeper ≡ keeper_now) × Rose last.door faults_now
+  Some_of = (last : Moment) × (n : ℕ) × (n < serving.count) × HasTurns serving (record { state = s; keeper = keeper; door = faults }) last tables_now door door_now n × (last.keeper ≡ keeper_now) × Rose last.door faults_now × Rose faults faults_now
+
+  risen : Rose faults faults_now
+  risen = subst (λ (n : ℕ). Rose n faults_now) same rose
 
   go : (o : Option Told) → door ≡ o → Some_of
   go None e = (
@@ -64,7 +68,8 @@ served_some serving s now tables tables_now keeper keeper_now door mid door_now 
       kept = agrees;
     },
     refl,
-    subst (λ (n : ℕ). Rose n faults_now) same rose,
+    risen,
+    risen,
   )
   go (Some t) e =
       let it = serves (opened_at serving.port t) (opens t e) in
@@ -82,6 +87,7 @@ served_some serving s now tables tables_now keeper keeper_now door mid door_now 
         },
         sym it.5,
         it.6,
+        risen,
       )
 
 pub served : (serving : Serving) (s now : State) (tables tables_now : Option Rows) (keeper keeper_now : ℕ) (door mid door_now : Option Told) (faults begun faults_now : ℕ) (r : Result (Unit {0}) Failed)
@@ -116,7 +122,7 @@ pub not_begun : (content : Option Content) (serving : Serving) (users : List Use
     (Err stop)
 not_begun content serving users tables tables_now shown shown_now door files keeper keeper_now gate (Refused refusal) read same is =
     (inr ((λ c e. (users, read c e)), is.0), record { tables = same; door = refl; door_faults = refl }, is.1, refl)
-not_begun content serving users tables tables_now shown shown_now door files keeper keeper_now gate StoreFault read same is = (is, record { tables = same; door = refl; door_faults = refl }, refl)
+not_begun content serving users tables tables_now shown shown_now door files keeper keeper_now gate StoreFault read same is = ((λ c e. (users, read c e)), is, record { tables = same; door = refl; door_faults = refl }, refl)
 not_begun content serving users tables tables_now shown shown_now door files keeper keeper_now gate NoMemory read same is = (record { tables = same; door = refl; door_faults = refl }, is, refl)
 not_begun content serving users tables tables_now shown shown_now door files keeper keeper_now gate ReadFault read same is = absurd is
 not_begun content serving users tables tables_now shown shown_now door files keeper keeper_now gate DoorFault read same is = absurd is
@@ -124,15 +130,16 @@ not_begun content serving users tables tables_now shown shown_now door files kee
 -- the desk began
 pub has_served : (content : Option Content) (serving : Serving) (users : List User) (s : State) (last : Moment) (tables tables_mid tables_now : Option Rows) (shown shown_now : Option (List ℕ)) (door door_now : Option Told) (files keeper keeper_mid keeper_now gate gate_now n : ℕ)
     → ((c : Content) → content ≡ Some c → users_at c serving.users ≡ Ok users)
-    → s.users ≡ users → Agrees tables s.tables → keeper_mid ≡ keeper → shown_now ≡ Some serving.store
+    → s.users ≡ users → Agrees tables s.tables → first_bad_row s.tables ≡ None → keeper_mid ≡ keeper → shown_now ≡ Some serving.store
     → HasTurns serving (record { state = s; keeper = keeper_mid; door = gate }) last tables_now door door_now n
     → HasServed content serving
     (record { tables = tables; shown = shown; door = door; file_faults = files; keeper_faults = keeper; door_faults = gate })
     (record { tables = tables_now; shown = shown_now; door = door_now; file_faults = files; keeper_faults = keeper_now; door_faults = gate_now })
     (record { state = s; keeper = keeper_mid; door = gate }) last n
-has_served content serving users s last tables tables_mid tables_now shown shown_now door door_now files keeper keeper_mid keeper_now gate gate_now n read of_users agrees same is_shown turns = record {
+has_served content serving users s last tables tables_mid tables_now shown shown_now door door_now files keeper keeper_mid keeper_now gate gate_now n read of_users agrees good same is_shown turns = record {
   users = λ c e. read c e ∙ ap Ok (sym of_users);
   tables = agrees;
+  valid = good;
   keeper = same;
   begun = refl;
   turns = turns.turns;
@@ -143,7 +150,7 @@ has_served content serving users s last tables tables_mid tables_now shown shown
 
 pub all_served : (content : Option Content) (serving : Serving) (users : List User) (s now : State) (tables tables_mid tables_now : Option Rows) (shown shown_mid shown_now : Option (List ℕ)) (door door_now : Option Told) (files keeper keeper_mid keeper_now gate gate_now : ℕ) (done : Unit {0})
     → ((c : Content) → content ≡ Some c → users_at c serving.users ≡ Ok users)
-    → (s.users ≡ users) × Agrees tables s.tables × (shown_mid ≡ Some serving.store) × (keeper_mid ≡ keeper)
+    → (s.users ≡ users) × Agrees tables s.tables × (first_bad_row s.tables ≡ None) × (shown_mid ≡ Some serving.store) × (keeper_mid ≡ keeper)
     → tables_mid ≡ tables → shown_now ≡ shown_mid
     → ServesFrom {E = Failed} serving s now tables_mid tables_now keeper_mid keeper_now door door_now gate gate_now (Ok done)
     → DeskComes content serving
@@ -154,7 +161,7 @@ all_served content serving users s now tables tables_mid tables_now shown shown_
   (
     record { state = s; keeper = keeper_mid; door = gate },
     record { state = now; keeper = keeper_now; door = gate_now },
-    has_served content serving users s _ tables tables_mid tables_now shown shown_now door door_now files keeper keeper_mid keeper_now gate gate_now serving.count read start.0 start.1 start.3 (stays ∙ start.2) turns,
+    has_served content serving users s _ tables tables_mid tables_now shown shown_now door door_now files keeper keeper_mid keeper_now gate gate_now serving.count read start.0 start.1 start.2 start.4 (stays ∙ start.3) turns,
     refl,
     refl,
   ),
@@ -163,7 +170,7 @@ all_served content serving users s now tables tables_mid tables_now shown shown_
 
 pub some_served : (content : Option Content) (serving : Serving) (users : List User) (s now : State) (tables tables_mid tables_now : Option Rows) (shown shown_mid shown_now : Option (List ℕ)) (door door_now : Option Told) (files keeper keeper_mid keeper_now gate gate_now : ℕ) (failed : Failed)
     → ((c : Content) → content ≡ Some c → users_at c serving.users ≡ Ok users)
-    → (s.users ≡ users) × Agrees tables s.tables × (shown_mid ≡ Some serving.store) × (keeper_mid ≡ keeper)
+    → (s.users ≡ users) × Agrees tables s.tables × (first_bad_row s.tables ≡ None) × (shown_mid ≡ Some serving.store) × (keeper_mid ≡ keeper)
     → tables_mid ≡ tables → shown_now ≡ shown_mid
     → ServesFrom {E = Failed} serving s now tables_mid tables_now keeper_mid keeper_now door door_now gate gate_now (Err failed)
     → DeskComes content serving
@@ -171,23 +178,35 @@ pub some_served : (content : Option Content) (serving : Serving) (users : List U
     (record { tables = tables_now; shown = shown_now; door = door_now; file_faults = files; keeper_faults = keeper_now; door_faults = gate_now })
     (Err DoorFault)
 some_served content serving users s now tables tables_mid tables_now shown shown_mid shown_now door door_now files keeper keeper_mid keeper_now gate gate_now failed read start same stays (inl is) =
-    (inl (record { tables = is.0 ∙ same; keeper = is.1 ∙ start.3; told = is.2; rose = is.3 }), refl)
+    (
+      inl (record {
+        users = λ c e. (users, read c e);
+        valid = λ rows e. ap first_bad_row (subst (λ (o : Option Rows). Agrees o s.tables) e start.1) ∙ start.2;
+        shown = stays ∙ start.3;
+        tables = is.0 ∙ same;
+        keeper = is.1 ∙ start.4;
+        told = is.2;
+        rose = is.3;
+      }),
+      refl,
+    )
 some_served content serving users s now tables tables_mid tables_now shown shown_mid shown_now door door_now files keeper keeper_mid keeper_now gate gate_now failed read start same stays (inr is) = (
   inr (
     record { state = s; keeper = keeper_mid; door = gate },
     is.0,
     is.1,
     is.2,
-    has_served content serving users s is.0 tables tables_mid tables_now shown shown_now door door_now files keeper keeper_mid keeper_now gate gate_now is.1 read start.0 start.1 start.3 (stays ∙ start.2) is.3,
+    has_served content serving users s is.0 tables tables_mid tables_now shown shown_now door door_now files keeper keeper_mid keeper_now gate gate_now is.1 read start.0 start.1 start.2 start.4 (stays ∙ start.3) is.3,
     is.4,
     is.5,
+    is.6,
   ),
   refl,
 )
 
 pub desk_served : (content : Option Content) (serving : Serving) (users : List User) (s now : State) (tables tables_mid tables_now : Option Rows) (shown shown_mid shown_now : Option (List ℕ)) (door door_now : Option Told) (files keeper keeper_mid keeper_now gate gate_now : ℕ) (r : Result (Unit {0}) Failed) (ended : Result (Unit {0}) DeskStop)
     → ((c : Content) → content ≡ Some c → users_at c serving.users ≡ Ok users)
-    → (s.users ≡ users) × Agrees tables s.tables × (shown_mid ≡ Some serving.store) × (keeper_mid ≡ keeper)
+    → (s.users ≡ users) × Agrees tables s.tables × (first_bad_row s.tables ≡ None) × (shown_mid ≡ Some serving.store) × (keeper_mid ≡ keeper)
     → tables_mid ≡ tables → shown_now ≡ shown_mid
     → ServesFrom {E = Failed} serving s now tables_mid tables_now keeper_mid keeper_now door door_now gate gate_now r
     → StopsAtDoor r ended

@@ -1,3 +1,4 @@
 pub mod DeskLemmas
 pub mod FoundLemmas
 pub mod MergeLemmas
+pub mod CompleteLemmas

@@ -1,4 +1,5 @@
--- How the desk ends: the steps in their order, the first that refuses deciding, and the conversations.
+-- How the desk ends: the steps in their order, the first that refuses deciding, and the conversations. All of this is the
+-- project's own.
 use Rattle.std.specs.Prelude.{ℕ, ◌≡◌, ◌<◌, ◌⊎◌, List as Seq, codes, Option, Some, None, Result, Ok, Err}
 use Rattle.std.specs.Fmt.{decimal}
 use Rattle.net_types.specs.Then.{◌then◌}
@@ -8,6 +9,7 @@ use Rattle.doors.specs.Door.{Told}
 use Rattle.desk_tables.specs.declared.rows.Rows.{Rows}
 use Rattle.desk_tables.specs.declared.rows.User.{User}
 use Rattle.user_file.specs.Users.{users_of}
+use Rattle.stored_rows.specs.Stored.{first_bad_row}
 use Rattle.desk_keeper.specs.Keeping.{Agrees, BadWhereTold}
 use Rattle.desk_judge.specs.Judged.{meant}
 use Rattle.judging.specs.Steps.{and_then, or_refused}
@@ -60,11 +62,12 @@ pub record IsUntouched (a b : Around) : Type 0 where
   pub door : b.door ≡ a.door
   pub door_faults : b.door_faults ≡ a.door_faults
 
--- the desk began with the users of the file and the tables that the keeper tells, at the first moment, and was at the
--- last one after so many conversations
+-- the desk began with the users of the file and the tables that the keeper tells, each row of them valid, at the first
+-- moment, and was at the last one after so many conversations
 pub record HasServed (content : Option Content) (serving : Serving) (a b : Around) (first last : Moment) (count : ℕ) : Type 0 where
   pub users : (c : Content) → content ≡ Some c → users_at c serving.users ≡ Ok first.state.users
   pub tables : Agrees a.tables first.state.tables
+  pub valid : first_bad_row first.state.tables ≡ None
   pub keeper : first.keeper ≡ a.keeper_faults
   pub begun : first.door ≡ a.door_faults
   pub turns : (t : Told) → a.door ≡ Some t → HaveTurns meant first (opened_at serving.port t) count last b.door
@@ -81,9 +84,17 @@ ServesAll content serving a b =
 abbrev pub ServesSome : Option Content → Serving → Around → Around → Type 0
 ServesSome content serving a b =
     (first last : Moment) × (n : ℕ) × (n < serving.count) × HasServed content serving a b first last n × (last.keeper ≡ b.keeper_faults) × Rose last.door b.door_faults
+    × Rose a.door_faults b.door_faults
 
--- or the door failed when it was to be opened
-pub record IsShut (a b : Around) : Type 0 where
+-- the file of users can be read
+abbrev pub IsUserFile : Option Content → Serving → Type 0
+IsUserFile content serving = (c : Content) → content ≡ Some c → (users : Seq User) × (users_at c serving.users ≡ Ok users)
+
+-- or the door failed when it was to be opened, behind users and rows that are not refused
+pub record IsShut (content : Option Content) (serving : Serving) (a b : Around) : Type 0 where
+  pub users : IsUserFile content serving
+  pub valid : (rows : Rows) → a.tables ≡ Some rows → first_bad_row rows ≡ None
+  pub shown : b.shown ≡ Some serving.store
   pub tables : b.tables ≡ a.tables
   pub keeper : b.keeper_faults ≡ a.keeper_faults
   pub told : (t : Told) → a.door ≡ Some t → b.door ≡ Some t
@@ -97,9 +108,6 @@ IsBadRow tables _ = ⊥
 abbrev pub IsUserRefusal : Option Content → Serving → Refusal → Type 0
 IsUserRefusal content serving refusal = (c : Content) → content ≡ Some c → users_at c serving.users ≡ Err refusal
 
-abbrev pub IsUserFile : Option Content → Serving → Type 0
-IsUserFile content serving = (c : Content) → content ≡ Some c → (users : Seq User) × (users_at c serving.users ≡ Ok users)
-
 abbrev pub IsDeskRefusal : Option Content → Serving → Option Rows → Refusal → Type 0
 IsDeskRefusal content serving tables refusal =
     IsUserRefusal content serving refusal ⊎ (IsUserFile content serving × IsBadRow tables refusal)
@@ -110,8 +118,8 @@ DeskComes content serving a b (Ok done) = ServesAll content serving a b × (b.fi
 DeskComes content serving a b (Err (Refused refusal)) =
     IsDeskRefusal content serving a.tables refusal × IsUntouched a b × (b.keeper_faults ≡ a.keeper_faults) × (b.file_faults ≡ a.file_faults)
 DeskComes content serving a b (Err ReadFault) = Rose a.file_faults b.file_faults × IsUntouched a b × (b.keeper_faults ≡ a.keeper_faults)
-DeskComes content serving a b (Err StoreFault) = Rose a.keeper_faults b.keeper_faults × IsUntouched a b × (b.file_faults ≡ a.file_faults)
-DeskComes content serving a b (Err DoorFault) = (IsShut a b ⊎ ServesSome content serving a b) × (b.file_faults ≡ a.file_faults)
+DeskComes content serving a b (Err StoreFault) = IsUserFile content serving × Rose a.keeper_faults b.keeper_faults × IsUntouched a b × (b.file_faults ≡ a.file_faults)
+DeskComes content serving a b (Err DoorFault) = (IsShut content serving a b ⊎ ServesSome content serving a b) × (b.file_faults ≡ a.file_faults)
 DeskComes content serving a b (Err NoMemory) = IsUntouched a b × (b.keeper_faults ≡ a.keeper_faults) × (b.file_faults ≡ a.file_faults)
 
 -- what is written of it, with the status

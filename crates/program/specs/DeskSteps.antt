@@ -1,10 +1,11 @@
 -- The steps of the desk, as the code has them (private).
-use Rattle.std.specs.Prelude.{ℕ, ◌≡◌, ◌<◌, ◌⊎◌, List as Seq, Option, Some, Result, Ok, Err}
+use Rattle.std.specs.Prelude.{ℕ, ◌≡◌, ◌<◌, ◌⊎◌, List as Seq, Option, Some, None, Result, Ok, Err}
 use Rattle.outside.specs.Faults.{Rose}
 use Rattle.doors.specs.Door.{Told}
 use Rattle.desk_tables.specs.declared.rows.Rows.{Rows}
 use Rattle.desk_tables.specs.declared.rows.User.{User}
 use Rattle.review_rules.specs.State.{State, Held}
+use Rattle.stored_rows.specs.Stored.{first_bad_row}
 use Rattle.desk_keeper.specs.Keeping.{Agrees}
 use Rattle.desk_judge.specs.Judged.{meant}
 use Rattle.serving.specs.Turns.{Comes, HaveTurns, Moment}
@@ -28,7 +29,8 @@ StopsAtDoor (Err e) ended = ended ≡ Err DoorFault
 
 -- the desk of what the keeper tells, or why there is none
 abbrev pub BeginsWith : Seq User → Option Rows → Option (Seq ℕ) → Seq ℕ → ℕ → ℕ → Result Held DeskStop → Type 0
-BeginsWith users told shown name before now (Ok store) = (store.state.users ≡ users) × Agrees told store.state.tables × (shown ≡ Some name) × (now ≡ before)
+BeginsWith users told shown name before now (Ok store) =
+    (store.state.users ≡ users) × Agrees told store.state.tables × (first_bad_row store.state.tables ≡ None) × (shown ≡ Some name) × (now ≡ before)
 BeginsWith users told shown name before now (Err (Refused refusal)) = IsBadRow told refusal × (now ≡ before)
 BeginsWith users told shown name before now (Err StoreFault) = Rose before now
 BeginsWith users told shown name before now (Err NoMemory) = now ≡ before
@@ -48,4 +50,4 @@ ServesFrom serving s now tables tables_now keeper keeper_now door door_now fault
 ServesFrom serving s now tables tables_now keeper keeper_now door door_now faults faults_now (Err e) =
     ((tables_now ≡ tables) × (keeper_now ≡ keeper) × ((t : Told) → door ≡ Some t → door_now ≡ Some t) × Rose faults faults_now)
     ⊎ ((last : Moment) × (n : ℕ) × (n < serving.count) × HasTurns serving (record { state = s; keeper = keeper; door = faults }) last tables_now door door_now n
-    × (last.keeper ≡ keeper_now) × Rose last.door faults_now)
+    × (last.keeper ≡ keeper_now) × Rose last.door faults_now × Rose faults faults_now)

@@ -2,4 +2,5 @@ pub mod Words
 pub mod Named
 pub mod DeskEnding
 pub mod DeskSteps
+pub mod Complete
 pub mod Laws

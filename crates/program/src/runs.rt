@@ -3,8 +3,10 @@
 ghost use Rattle.std.specs.Prelude.{◌≡◌, ◌≤◌, ◌⊎◌, ℕ, List as Seq, Some, None, IfOk, string_bytes};
 ghost use Rattle.outside.specs.Content.{Content};
 ghost use Rattle.outside.specs.Faults.{Rose};
-ghost use Rattle.commands.specs.Commands.{command_of};
+ghost use Rattle.desk_tables.specs.declared.rows.Rows.{Rows};
+ghost use Rattle.commands.specs.Commands.{Asked, command_of};
 ghost use Rattle.commands.specs.Running.{Answers, HasPart, IsBehind, IsRefusedCommand, IsStatus, read_fault_line, usage_line};
+ghost use Rattle.program.specs.Complete.{CompletesDesk, IsCalm, IsComplete, IsSound, IsSoundDesk};
 ghost use Rattle.program.specs.DeskEnding.{DeskFinishes, IsIdle, RunsDesk, served_line};
 ghost use Rattle.program.specs.Named.{serving};
 ghost use Rattle.program.specs.Words.{CanServe, Serving, serving_of};
@@ -122,6 +124,18 @@ pub fn run<F: Shelf, O: Sink, D: Door, K: Keeper, R: Threads + Sync, G: Gate + S
         (record { tables = K.tables keeper.old; shown = K.opened keeper.old; door = D.told door.old; file_faults = F.faults shelf.old; keeper_faults = K.faults keeper.old; door_faults = D.faults door.old })
         (record { tables = K.tables keeper.new; shown = K.opened keeper.new; door = D.told door.new; file_faults = F.faults shelf.new; keeper_faults = K.faults keeper.new; door_faults = D.faults door.new })
         (O.faults out.old) (O.faults out.new) (O.given out.old) (O.given out.new) result }
+    ensures complete { (asked : Asked) (c : Content) (before : Seq ℕ) → serving_of words.now ≡ None → command_of words.now ≡ Some asked → F.content shelf.old ≡ Some c → O.given out.old ≡ Some before →
+        IsSound c asked → (Rose (F.faults shelf.old) (F.faults shelf.new) → ⊥) → (Rose (O.faults out.old) (O.faults out.new) → ⊥) → IsComplete c asked before (O.given out.new) result }
+    ensures complete_desk { (serving : Serving) (c : Content) (rows : Rows) (before : Seq ℕ) → serving_of words.now ≡ Some serving → F.content shelf.old ≡ Some c → O.given out.old ≡ Some before →
+        K.tables keeper.old ≡ Some rows → IsSoundDesk c serving rows →
+        IsCalm
+        (record { tables = K.tables keeper.old; shown = K.opened keeper.old; door = D.told door.old; file_faults = F.faults shelf.old; keeper_faults = K.faults keeper.old; door_faults = D.faults door.old })
+        (record { tables = K.tables keeper.new; shown = K.opened keeper.new; door = D.told door.new; file_faults = F.faults shelf.new; keeper_faults = K.faults keeper.new; door_faults = D.faults door.new })
+        (O.faults out.old) (O.faults out.new) →
+        CompletesDesk c serving rows
+        (record { tables = K.tables keeper.old; shown = K.opened keeper.old; door = D.told door.old; file_faults = F.faults shelf.old; keeper_faults = K.faults keeper.old; door_faults = D.faults door.old })
+        (record { tables = K.tables keeper.new; shown = K.opened keeper.new; door = D.told door.new; file_faults = F.faults shelf.new; keeper_faults = K.faults keeper.new; door_faults = D.faults door.new })
+        before (O.given out.new) result }
     ensures still { (serving : Serving) → serving_of words.now ≡ Some serving → steps.new ≡ steps.old }
     ensures same { F.content shelf.new ≡ F.content shelf.old }
 {
