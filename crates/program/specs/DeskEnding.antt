@@ -1,4 +1,5 @@
--- How the desk ends: the steps in their order, the first that refuses deciding, and the conversations.
+-- How the desk ends: the steps in their order, the first that refuses deciding, and the conversations. All of this is the
+-- project's own.
 use Rattle.std.specs.Prelude.{ℕ, ◌≡◌, ◌<◌, ◌⊎◌, List as Seq, codes, Option, Some, None, Result, Ok, Err}
 use Rattle.std.specs.Fmt.{decimal}
 use Rattle.net_types.specs.Then.{◌then◌}
@@ -20,7 +21,7 @@ use Rattle.commands.specs.declared.refusals.Refusal.TheVariants as Cause
 use Rattle.serving.specs.Turns.{Comes, HaveTurns, Moment}
 use Rattle.program.specs.declared.desk.DeskStop.{DeskStop}
 use Rattle.program.specs.declared.desk.DeskStop.TheVariants.{Refused, ReadFault, StoreFault, DoorFault, NoMemory}
-use Rattle.program.specs.Words.{Serving}
+use Rattle.command_words.specs.Serving.{Serving}
 
 -- the users of a file
 abbrev pub users_in : Seq ℕ → Result (Seq User) Refusal
