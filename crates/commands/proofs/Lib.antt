@@ -1,5 +1,4 @@
 pub mod ReportLemmas
-pub mod WordLemmas
 pub mod NameLemmas
 pub mod FolderLemmas
 pub mod StopLemmas

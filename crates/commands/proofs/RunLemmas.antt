@@ -5,11 +5,11 @@ use Rattle.commands.specs.declared.answer.Answer.{Answer}
 use Rattle.commands.specs.declared.stop.Stop.{Stop}
 use Rattle.commands.specs.declared.stop.Stop.TheVariants.{Refused, ReadFault, NoMemory}
 use Rattle.commands.specs.declared.refusals.Refusal.{Refusal}
-use Rattle.commands.specs.declared.command.Command.{Command}
-use Rattle.commands.specs.Asked.{asked}
-use Rattle.commands.specs.Commands.{Asked}
+use Rattle.command_words.specs.declared.commands.Command.{Command}
+use Rattle.command_words.specs.Asked.{asked}
+use Rattle.command_words.specs.Commands.{Asked}
 use Rattle.commands.specs.Refusals.{line_of}
-use Rattle.commands.specs.Running.{Ending, EndsWith, Finishes, HasAnswered, HasNoMemory, HasPart, HasUsage, IsBehind, IsEnding, IsPartBehind, IsRefusedCommand, IsWritten, Performs, PerformsCounted, ending_of, read_fault_line, status_of, usage_line}
+use Rattle.commands.specs.Running.{Answers, Ending, EndsWith, Finishes, HasAnswered, HasNoMemory, HasPart, HasUsage, IsBehind, IsEnding, IsPartBehind, IsRefusedCommand, IsWritten, Performs, PerformsCounted, ending_of, read_fault_line, status_of, usage_line}
 use Rattle.commands.specs.Stops.{Comes, Counts, CountsOf, HasCause, Unticked}
 
 -- the ending of a command that came to an answer
@@ -60,6 +60,11 @@ pub used : (before : List ℕ) (wanted : ℕ) (text : List ℕ) (faults faults_n
 used before wanted text faults faults_now given given_now ticks status three line calm e w =
     let done = whole wanted text before faults faults_now given given_now status calm e w in
     record { status_is = done.0 ∙ three; written = done.1 ∙ ap (λ t. Some (before ++ t)) line; still = λ i. ticks }
+
+-- where there is no memory for the words
+pub silent : (content : Content) (asked : Option Asked) (before : List ℕ) (given : Option (List ℕ)) (ticks ticks_now status : ℕ) → status ≡ 8 → given ≡ Some before → Answers content asked before given ticks ticks_now status
+silent content None before given ticks ticks_now status eight same = inr (record { status_is = eight; written = same })
+silent content (Some asked) before given ticks ticks_now status eight same = inr (record { status_is = eight; written = same })
 
 pub behind_usage : (wanted : ℕ) (text : List ℕ) (faults faults_now : ℕ) (given given_now : Option (List ℕ)) (status : ℕ) → text ≡ usage_line → IsWritten wanted text faults faults_now given given_now status → status ≡ 3 → IsBehind usage_line given given_now
 behind_usage wanted text faults faults_now given given_now status line (inl w) three = λ before e. w.told before e ∙ ap (λ t. Some (before ++ t)) line

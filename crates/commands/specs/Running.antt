@@ -8,7 +8,7 @@ use Rattle.commands.specs.declared.stable.Proposal.{Proposal}
 use Rattle.commands.specs.declared.stop.Stop.{Stop}
 use Rattle.commands.specs.declared.stop.Stop.TheVariants.{Refused, ReadFault, NoMemory}
 use Rattle.commands.specs.declared.refusals.Refusal.{Refusal}
-use Rattle.commands.specs.Commands.{Asked, Check, Stable, Gen}
+use Rattle.command_words.specs.Commands.{Asked, Check, Stable, Gen}
 use Rattle.commands.specs.CheckEnding.{IsReport, check_steps, gen_steps, solved_in}
 use Rattle.commands.specs.Refusals.{line_of}
 use Rattle.commands.specs.StableEnding.{IsStability, stable_inputs}
@@ -92,10 +92,10 @@ pub record HasUsage (before : Seq ℕ) (after : Option (Seq ℕ)) (ticks ticks_n
   pub still : ticks_now ≡ ticks
 
 -- what a run comes to over this content where its status is not that of a failure: a command answers with its
--- defined text and status and makes its ticks, or ends with the status of want of memory and wrote nothing; other words
--- are answered by the usage line
+-- defined text and status and makes its ticks, and other words are answered by the usage line; or it ends with the
+-- status of want of memory and wrote nothing
 abbrev pub Answers : Content → Option Asked → Seq ℕ → Option (Seq ℕ) → ℕ → ℕ → ℕ → Type 0
-Answers content None before after ticks ticks_now status = HasUsage before after ticks ticks_now status
+Answers content None before after ticks ticks_now status = HasUsage before after ticks ticks_now status ⊎ HasNoMemory before after status
 Answers content (Some asked) before after ticks ticks_now status =
     HasAnswered content asked before after ticks ticks_now status ⊎ HasNoMemory before after status
 

@@ -3,7 +3,7 @@
 ghost use Rattle.std.specs.Prelude.{◌≡◌, ◌≤◌, IfOk, Ok, Err, Some};
 ghost use Rattle.outside.specs.Content.{Content};
 ghost use Rattle.judging.specs.Inputs.{CanBeJudged};
-ghost use Rattle.commands.specs.Commands.{AreWorkers};
+ghost use Rattle.command_words.specs.Commands.{AreWorkers};
 ghost use Rattle.commands.specs.CheckEnding.{IsReport, check_inputs, check_steps, judged, solved_in};
 ghost use Rattle.commands.specs.Stops.{Comes, Counts, Gives, HasCause, IsCalm, Unticked};
 

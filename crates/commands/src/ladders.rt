@@ -2,7 +2,7 @@
 
 ghost use Rattle.std.specs.Prelude.{◌≡◌, IfOk};
 ghost use Rattle.judging.specs.Inputs.{CanBeJudged};
-ghost use Rattle.commands.specs.Commands.{AreColumns, AreWorkers};
+ghost use Rattle.command_words.specs.Commands.{AreColumns, AreWorkers};
 ghost use Rattle.commands.specs.CheckEnding.{IsReport, gen_inputs, gen_steps, solved_in};
 ghost use Rattle.commands.specs.Stops.{Comes, Counts, Gives, IsCalm, Unticked};
 

@@ -2,7 +2,7 @@
 
 ghost use Rattle.std.specs.Prelude.{◌≡◌};
 ghost use Rattle.judging.specs.Inputs.{CanBeJudged};
-ghost use Rattle.commands.specs.Commands.{AreWorkers};
+ghost use Rattle.command_words.specs.Commands.{AreWorkers};
 ghost use Rattle.commands.specs.CheckEnding.{IsReport, limited_inputs, of_judging, solved_in};
 ghost use Rattle.commands.specs.Stops.{Comes, Counts, IsCalm, Unticked};
 

@@ -3,20 +3,20 @@
 ghost use Rattle.std.specs.Prelude.{◌≡◌, ◌≤◌, ◌⊎◌, ℕ, List as Seq, Some, None, option_map};
 ghost use Rattle.outside.specs.Content.{Content};
 ghost use Rattle.outside.specs.Faults.{Rose};
-ghost use Rattle.commands.specs.Asked.{asked};
-ghost use Rattle.commands.specs.Commands.{CanRun, command_of};
+ghost use Rattle.command_words.specs.Asked.{asked};
+ghost use Rattle.command_words.specs.Commands.{CanRun, command_of};
 ghost use Rattle.commands.specs.Refusals.{line_of};
 ghost use Rattle.commands.specs.Running.{Answers, Finishes, HasPart, IsBehind, IsRefusedCommand, IsSilent, IsStatus, IsWritten, Performs, PerformsCounted, read_fault_line, status_of, usage_line};
 ghost use Rattle.commands.specs.Stops.{HasCause, Unticked};
 
 use crate::answer::Answer;
 use crate::check::check;
-use crate::command::{Command, command_of};
 use crate::ladders::generated;
 use crate::refusals::{Refusal, line_of};
 use crate::stable::stable;
 use crate::status::Status;
 use crate::stop::Stop;
+use command_words::{Command, command_of};
 use net_types::{NoMemory, Text};
 use outside::{Gate, Shelf, Sink, Steps, give_all};
 use std::alloc::Global;
@@ -96,9 +96,9 @@ fn perform<R: Threads + Sync, F: Shelf, G: Gate + Sync, L: Ledger>(
     }
 }
 
-/// Does what the words ask, and answers with the exit status. Words are read by hand, by the table of
-/// `specs/Commands.antt`: `check` and three words, `stable` and two, `gen` and an odd number from 3 to 21; behind those of
-/// `check` and `gen` may stand how many workers solve each case, 1 to 8.
+/// Does what the words ask, and answers with the exit status. What they ask is said by the table of `command_words`:
+/// `check` and three words, `stable` and two, `gen` and an odd number from 3 to 21; behind those of `check` and `gen` may
+/// stand how many workers solve each case, 1 to 8.
 ///
 /// What is written, and the status, is that of `specs/Running.antt`. A property that is printed as certified holds, in
 /// every stable solution. The ticks of `steps` are the two printed numbers of solved cases together, and none where
@@ -119,7 +119,7 @@ pub fn run<F: Shelf, O: Sink, R: Threads + Sync, G: Gate + Sync, L: Ledger>(
     ensures unsolved { 2 ≤ result → result ≤ 4 → steps.new ≡ steps.old }
     ensures refused { (c : Content) → F.content shelf.old ≡ Some c → result ≡ 2 → IsRefusedCommand c (command_of words.now) }
     ensures usage { result ≡ 3 → command_of words.now ≡ None }
-    ensures no_command { command_of words.now ≡ None → (result ≡ 3) ⊎ (result ≡ 5) }
+    ensures no_command { command_of words.now ≡ None → (result ≡ 3) ⊎ (result ≡ 5) ⊎ (result ≡ 8) }
     ensures usage_text { result ≡ 3 → IsBehind usage_line (O.given out.old) (O.given out.new) }
     ensures read_fault_text { result ≡ 4 → IsBehind read_fault_line (O.given out.old) (O.given out.new) }
     ensures written_part { result ≡ 5 → HasPart (F.content shelf.old) (command_of words.now) (F.faults shelf.old) (F.faults shelf.new) (O.given out.old) (O.given out.new) }
@@ -132,11 +132,16 @@ pub fn run<F: Shelf, O: Sink, R: Threads + Sync, G: Gate + Sync, L: Ledger>(
     ensures same { F.content shelf.new ≡ F.content shelf.old }
     ensures known { IsStatus result }
 {
-    match command_of(words) {
-        Some(command) => {
+    let line = match command_words::line_of(alloc, words) {
+        Ok(line) => line,
+        Err(NoMemory) => return Status::new(8),
+    };
+    match command_of(alloc, words, line.as_slice()) {
+        Ok(Some(command)) => {
             let performed = perform(rt, alloc, shelf, command, gate, steps);
             finish(alloc, out, performed)
         }
-        None => write(out, USAGE.as_bytes(), Status::new(3)),
+        Ok(None) => write(out, USAGE.as_bytes(), Status::new(3)),
+        Err(NoMemory) => Status::new(8),
     }
 }

@@ -10,7 +10,7 @@ use Rattle.review_rules.specs.State.{State}
 use Rattle.review_rules.specs.Judging.{Judging}
 use Rattle.desk_keeper.specs.Keeping.{Agrees}
 use Rattle.desk_judge.specs.Judged.{meant}
-use Rattle.commands.specs.Commands.{Asked}
+use Rattle.command_words.specs.Commands.{Asked}
 use Rattle.commands.specs.Running.{Answers, EndsWith, HasNoMemory, IsSilent, IsWritten, ending_of}
 use Rattle.commands.specs.declared.refusals.Refusal.{Refusal}
 use Rattle.commands.specs.declared.refusals.Refusal.TheVariants as Cause
@@ -22,7 +22,7 @@ use Rattle.program.specs.declared.desk.DeskStop.{DeskStop}
 use Rattle.program.specs.declared.desk.DeskStop.TheVariants.{Refused, ReadFault, StoreFault, DoorFault, NoMemory}
 use Rattle.program.specs.Complete.{AllAnswered, CompletesDesk, GotAnswers, IsCalm, IsComplete, IsSound, IsSoundDesk}
 use Rattle.program.specs.DeskEnding.{Around, DeskComes, DeskFinishes, HasServed, IsBadRow, IsDeskRefusal, RunsDesk, ServesAll, opened_at, served_line, users_at}
-use Rattle.program.specs.Words.{Serving}
+use Rattle.command_words.specs.Serving.{Serving}
 
 -- ---- a command
 
@@ -140,3 +140,16 @@ desk_completes content c asked serving asks rows a b faults faults_now before gi
     complete_desk c serving rows a b faults faults_now before given given_now status given_is tables sound calm
     (subst (λ (s : Serving). RunsDesk (Some c) s a b faults faults_now given given_now status) same
     (subst (λ (o : Option Content). RunsDesk o asked a b faults faults_now given given_now status) told runs))
+
+-- without memory for the words nothing was done
+pub nothing_complete : (content : Content) (asked : Asked) (before : List ℕ) (given : Option (List ℕ)) → given ≡ Some before → IsComplete content asked before given 8
+nothing_complete content asked before given is = inr (record { status_is = refl; written = is })
+
+pub nothing_served : (content : Content) (serving : Serving) (rows : Rows) (tables : Option Rows) (shown : Option (List ℕ)) (door : Option Told) (files keeper gate : ℕ) (before : List ℕ) (given : Option (List ℕ))
+    → given ≡ Some before
+    → CompletesDesk content serving rows
+    (record { tables = tables; shown = shown; door = door; file_faults = files; keeper_faults = keeper; door_faults = gate })
+    (record { tables = tables; shown = shown; door = door; file_faults = files; keeper_faults = keeper; door_faults = gate })
+    before given 8
+nothing_served content serving rows tables shown door files keeper gate before given is =
+    inr (inr (record { tables = refl; door = refl; door_faults = refl }), record { status_is = refl; written = is })

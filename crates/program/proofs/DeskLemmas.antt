@@ -18,7 +18,7 @@ use Rattle.commands.specs.declared.stop.Stop.TheVariants.{Refused as FilesRefuse
 use Rattle.commands.specs.Stops.{Gives, HasCause}
 use Rattle.program.specs.declared.desk.DeskStop.{DeskStop}
 use Rattle.program.specs.declared.desk.DeskStop.TheVariants.{Refused, ReadFault, StoreFault, DoorFault, NoMemory}
-use Rattle.program.specs.Words.{Serving}
+use Rattle.command_words.specs.Serving.{Serving}
 use Rattle.program.specs.DeskEnding.{Around, DeskComes, HasServed, IsBadRow, IsDeskRefusal, IsShut, IsUntouched, ServesAll, ServesSome, opened_at, users_at}
 use Rattle.program.specs.DeskSteps.{BeginsWith, HasTurns, IsSameStop, ServesFrom, StopsAtDoor}
 

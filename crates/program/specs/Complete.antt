@@ -9,12 +9,12 @@ use Rattle.stored_rows.specs.Stored.{first_bad_row}
 use Rattle.review_rules.specs.State.{State}
 use Rattle.desk_keeper.specs.Keeping.{Agrees}
 use Rattle.desk_judge.specs.Judged.{meant}
-use Rattle.commands.specs.Commands.{Asked}
+use Rattle.command_words.specs.Commands.{Asked}
 use Rattle.commands.specs.Running.{HasNoMemory, IsAnswered, ending_of}
 use Rattle.serving.specs.Turns.{Comes, after_all}
 use Rattle.serving.specs.Calm.{AreAnswered}
 use Rattle.program.specs.DeskEnding.{Around, IsUntouched, opened_at, served_line, users_at}
-use Rattle.program.specs.Words.{Serving}
+use Rattle.command_words.specs.Serving.{Serving}
 
 -- ---- a command
 

@@ -22,7 +22,7 @@ use Rattle.commands.specs.declared.refusals.Refusal.TheVariants as Cause
 use Rattle.serving.specs.Turns.{Comes, HaveTurns, Moment}
 use Rattle.program.specs.declared.desk.DeskStop.{DeskStop}
 use Rattle.program.specs.declared.desk.DeskStop.TheVariants.{Refused, ReadFault, StoreFault, DoorFault, NoMemory}
-use Rattle.program.specs.Words.{Serving}
+use Rattle.command_words.specs.Serving.{Serving}
 
 -- the users of a file
 abbrev pub users_in : Seq ℕ → Result (Seq User) Refusal

@@ -14,7 +14,7 @@ use Rattle.commands.specs.declared.stop.Stop.TheVariants.{Refused as FilesRefuse
 use Rattle.program.specs.declared.desk.DeskStop.{DeskStop}
 use Rattle.program.specs.declared.desk.DeskStop.TheVariants.{Refused, ReadFault, StoreFault, DoorFault, NoMemory}
 use Rattle.program.specs.DeskEnding.{IsBadRow, opened_at}
-use Rattle.program.specs.Words.{Serving}
+use Rattle.command_words.specs.Serving.{Serving}
 
 -- the same stop
 abbrev pub IsSameStop : Stop → DeskStop → Type 0

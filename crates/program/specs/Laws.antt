@@ -1,4 +1,4 @@
--- What is true of the desk with the judge of the program.
+-- What is true of the desk with the judge of the program. All of this is the project's own.
 use Rattle.std.specs.Prelude.{ℕ, ◌≡◌, List as Seq, [], ◌∷◌, Ok, All}
 use Rattle.net_types.specs.NetValue.{NetValue}
 use Rattle.bundle_reader.specs.Bundle as Bundle

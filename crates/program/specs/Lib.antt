@@ -1,5 +1,3 @@
-pub mod Words
-pub mod Named
 pub mod DeskEnding
 pub mod DeskSteps
 pub mod Complete

@@ -4,15 +4,15 @@ ghost use Rattle.std.specs.Prelude.{◌≡◌, ◌≢◌, ◌≤◌, ℕ, List a
 ghost use Rattle.outside.specs.Content.{Content};
 ghost use Rattle.outside.specs.Faults.{Rose};
 ghost use Rattle.doors.specs.Door.{Told};
+ghost use Rattle.command_words.specs.Asked.{serving};
+ghost use Rattle.command_words.specs.Serving.{CanServe};
 ghost use Rattle.commands.specs.Stops.{Gives, HasCause, IsCalm};
 ghost use Rattle.desk_judge.specs.Judged.{meant};
 ghost use Rattle.desk_keeper.specs.Keeping.{Agrees};
 ghost use Rattle.program.specs.DeskEnding.{users_at, users_in, DeskComes};
 ghost use Rattle.program.specs.DeskSteps.{BeginsWith, IsSameStop, ServesFrom, StopsAtDoor};
-ghost use Rattle.program.specs.Named.{serving};
-ghost use Rattle.program.specs.Words.{CanServe};
 
-use crate::words::ServeWords;
+use command_words::ServeWords;
 use commands::{Form, Refusal, Stop, read_file};
 use desk_judge::RunJudge;
 use desk_keeper::{DeskStore, Keeper, StartRefusal};

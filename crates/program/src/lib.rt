@@ -11,7 +11,6 @@
 mod desk;
 mod laws;
 mod runs;
-mod words;
 
 pub use commands::Status;
 pub use laws::law_of_merged_reviews;

@@ -4,15 +4,15 @@ ghost use Rattle.std.specs.Prelude.{◌≡◌, ◌≤◌, ◌⊎◌, ℕ, List a
 ghost use Rattle.outside.specs.Content.{Content};
 ghost use Rattle.outside.specs.Faults.{Rose};
 ghost use Rattle.desk_tables.specs.declared.rows.Rows.{Rows};
-ghost use Rattle.commands.specs.Commands.{Asked, command_of};
+ghost use Rattle.command_words.specs.Asked.{serving};
+ghost use Rattle.command_words.specs.Commands.{Asked, command_of};
+ghost use Rattle.command_words.specs.Serving.{CanServe, Serving, serving_of};
 ghost use Rattle.commands.specs.Running.{Answers, HasPart, IsBehind, IsRefusedCommand, IsStatus, read_fault_line, usage_line};
 ghost use Rattle.program.specs.Complete.{CompletesDesk, IsCalm, IsComplete, IsSound, IsSoundDesk};
 ghost use Rattle.program.specs.DeskEnding.{DeskFinishes, IsIdle, RunsDesk, served_line};
-ghost use Rattle.program.specs.Named.{serving};
-ghost use Rattle.program.specs.Words.{CanServe, Serving, serving_of};
 
 use crate::desk::{DeskStop, serve_desk};
-use crate::words::{ServeWords, serving_of};
+use command_words::{ServeWords, serving_of};
 use commands::{Status, refuse, write};
 use desk_keeper::Keeper;
 use doors::Door;
@@ -81,7 +81,7 @@ fn run_desk<F: Shelf, O: Sink, D: Door, K: Keeper, R: Threads + Sync>(
 }
 
 /// Does what the words ask, and answers with the exit status. `serve` and what stands behind it start the review desk, by
-/// the table of `specs/Words.antt`; all other words are those of `commands`.
+/// the table of `command_words`; all other words are those of `commands`.
 ///
 /// Of those words, what is written and the status is what `commands` promises; keeper and door are not asked. Of the desk,
 /// `specs/DeskEnding.antt` says what becomes of each conversation, of the tables, of what is written, and each status by
@@ -104,7 +104,7 @@ pub fn run<F: Shelf, O: Sink, D: Door, K: Keeper, R: Threads + Sync, G: Gate + S
     ensures unsolved { serving_of words.now ≡ None → 2 ≤ result → result ≤ 4 → steps.new ≡ steps.old }
     ensures refused { serving_of words.now ≡ None → (c : Content) → F.content shelf.old ≡ Some c → result ≡ 2 → IsRefusedCommand c (command_of words.now) }
     ensures usage { serving_of words.now ≡ None → result ≡ 3 → command_of words.now ≡ None }
-    ensures no_command { serving_of words.now ≡ None → command_of words.now ≡ None → (result ≡ 3) ⊎ (result ≡ 5) }
+    ensures no_command { serving_of words.now ≡ None → command_of words.now ≡ None → (result ≡ 3) ⊎ (result ≡ 5) ⊎ (result ≡ 8) }
     ensures usage_text { serving_of words.now ≡ None → result ≡ 3 → IsBehind usage_line (O.given out.old) (O.given out.new) }
     ensures read_fault_text { serving_of words.now ≡ None → result ≡ 4 → IsBehind read_fault_line (O.given out.old) (O.given out.new) }
     ensures written_part { serving_of words.now ≡ None → result ≡ 5 → HasPart (F.content shelf.old) (command_of words.now) (F.faults shelf.old) (F.faults shelf.new) (O.given out.old) (O.given out.new) }
@@ -139,8 +139,13 @@ pub fn run<F: Shelf, O: Sink, D: Door, K: Keeper, R: Threads + Sync, G: Gate + S
     ensures still { (serving : Serving) → serving_of words.now ≡ Some serving → steps.new ≡ steps.old }
     ensures same { F.content shelf.new ≡ F.content shelf.old }
 {
-    match serving_of(words) {
-        Some(asked) => run_desk(rt, alloc, shelf, out, door, keeper, &asked),
-        None => commands::run(rt, alloc, words, shelf, out, gate, steps),
+    let line = match command_words::line_of(alloc, words) {
+        Ok(line) => line,
+        Err(NoMemory) => return Status::new(8),
+    };
+    match serving_of(alloc, words, line.as_slice()) {
+        Ok(Some(asked)) => run_desk(rt, alloc, shelf, out, door, keeper, &asked),
+        Ok(None) => commands::run(rt, alloc, words, shelf, out, gate, steps),
+        Err(NoMemory) => Status::new(8),
     }
 }

@@ -1,5 +1,5 @@
 use Rattle.std.proofs.Common.{arith}
-use Rattle.commands.specs.Asked.{asked}
+use Rattle.command_words.specs.Asked.{asked}
 use Rattle.commands.specs.Running.{usage_line}
 use Rattle.commands.proofs.RunLemmas.{answered, behind_usage, part, read_kept, read_still, refused, unsolved, usage_part, used, write_kept, write_still, written_kept, written_still}
 use Rattle.commands.proofs.runs.run.Goals as goal

@@ -1,4 +1,4 @@
-use Rattle.program.specs.Named.{serving}
+use Rattle.command_words.specs.Asked.{serving}
 use Rattle.program.proofs.DeskLemmas.{served}
 use Rattle.program.proofs.desk.serve.Goals as goal
 

@@ -1,5 +1,5 @@
 use Rattle.std.proofs.Common.{ℕ, Some, Ok, subst, sym}
-use Rattle.program.specs.Named.{serving}
+use Rattle.command_words.specs.Asked.{serving}
 use Rattle.program.specs.DeskEnding.{DeskComes}
 use Rattle.program.proofs.DeskLemmas.{around}
 use Rattle.program.proofs.desk.serve_desk.Goals as goal

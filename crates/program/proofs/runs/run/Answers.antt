@@ -1,5 +1,5 @@
 use Rattle.std.proofs.Common.{subst, Option}
-use Rattle.commands.specs.Commands.{Asked}
+use Rattle.command_words.specs.Commands.{Asked}
 use Rattle.commands.specs.Running.{Answers}
 use Rattle.program.proofs.CompleteLemmas.{complete, desk_completes}
 use Rattle.program.proofs.runs.run.Goals as goal

@@ -1,8 +1,8 @@
--- The words that start the review desk.
-use Rattle.std.specs.Prelude.{ℕ, ◌≡◌, ◌≤◌, ◌&&◌, List as Seq, [], ◌∷◌, codes, Option, Some, None, option_map, option_and_then, if◌then◌else◌}
+-- The words that start the review desk. All of this is the project's own.
+use Rattle.std.specs.Prelude.{ℕ, ◌≤◌, ◌&&◌, List as Seq, [], ◌∷◌, codes, Option, Some, None, if◌then◌else◌}
 use Rattle.net_types.specs.Numerals.{number_in}
 use Rattle.net_types.specs.Order.{same_text}
-use Rattle.commands.specs.Commands.{is_path, workers_of}
+use Rattle.command_words.specs.Commands.{is_path, workers_of}
 
 -- what they ask: a desk over this store, for so many conversations through this port, with the users of this file, and so
 -- many workers for each case that is solved

@@ -1,4 +1,4 @@
--- The commands of the program, as its words say them.
+-- The commands of the program, as its words say them. All of this is the project's own.
 use Rattle.std.specs.Prelude.{ℕ, ◌≡◌, ◌≤◌, ◌%◌, ◌==◌, ◌&&◌, not, Bool, false, List as Seq, [], ◌∷◌, codes, Option, Some, None, option_map, option_and_then, if◌then◌else◌}
 use Rattle.net_types.specs.Numerals.{number_in}
 use Rattle.net_types.specs.Order.{same_text}
@@ -29,34 +29,31 @@ if_odd number = if number % 2 == 1 then Some number else None
 abbrev pub columns_of : Seq ℕ → Option ℕ
 columns_of word = option_and_then if_odd (number_in 3 21 word)
 
--- `check BASE NEW PROPS`, and `check BASE NEW PROPS WORKERS`
-abbrev pub check_of : Seq ℕ → Seq ℕ → Seq ℕ → Seq ℕ → ℕ → Option Asked
-check_of word a b c workers = if same_text word (codes "check") && are_paths a b c then Some (Check a b c workers) else None
+-- a command with so many workers, where their number can be read
+abbrev pub check_of : Seq ℕ → Seq ℕ → Seq ℕ → Seq ℕ → Option ℕ → Option Asked
+check_of word base new properties workers =
+    if same_text word (codes "check") && are_paths base new properties then option_map (Check base new properties) workers else None
 
-abbrev pub check_with : Seq ℕ → Seq ℕ → Seq ℕ → Seq ℕ → Seq ℕ → Option Asked
-check_with word a b c last = option_and_then (check_of word a b c) (workers_of last)
-
--- `stable BUNDLE LABELS`
 abbrev pub stable_of : Seq ℕ → Seq ℕ → Seq ℕ → Option Asked
-stable_of word a b = if same_text word (codes "stable") && (is_path a && is_path b) then Some (Stable a b) else None
+stable_of word bundle labels = if same_text word (codes "stable") && (is_path bundle && is_path labels) then Some (Stable bundle labels) else None
 
--- `gen N`, and `gen N WORKERS`
-abbrev pub gen_of : Seq ℕ → Seq ℕ → ℕ → Option Asked
-gen_of word number workers =
-    if same_text word (codes "gen") then option_map (λ columns. Gen columns workers) (columns_of number) else None
+abbrev pub gen_with : Option ℕ → Option ℕ → Option Asked
+gen_with (Some columns) (Some workers) = Some (Gen columns workers)
+gen_with _ _ = None
 
-abbrev pub gen_with : Seq ℕ → Seq ℕ → Seq ℕ → Option Asked
-gen_with word number last = option_and_then (gen_of word number) (workers_of last)
+abbrev pub gen_of : Seq ℕ → Seq ℕ → Option ℕ → Option Asked
+gen_of word number workers = if same_text word (codes "gen") then gen_with (columns_of number) workers else None
 
+-- two words behind the first are those of `stable`, or `gen N WORKERS`
 abbrev pub two_behind : Seq ℕ → Seq ℕ → Seq ℕ → Option Asked
-two_behind word a b = if same_text word (codes "stable") then stable_of word a b else gen_with word a b
+two_behind word a b = if same_text word (codes "stable") then stable_of word a b else gen_of word a (workers_of b)
 
 -- the command of the words, or none; one worker where their number is left out
 abbrev pub command_of : Seq (Seq ℕ) → Option Asked
-command_of (word ∷ a ∷ b ∷ c ∷ last ∷ []) = check_with word a b c last
-command_of (word ∷ a ∷ b ∷ c ∷ []) = check_of word a b c 1
+command_of (word ∷ a ∷ b ∷ c ∷ last ∷ []) = check_of word a b c (workers_of last)
+command_of (word ∷ a ∷ b ∷ c ∷ []) = check_of word a b c (Some 1)
 command_of (word ∷ a ∷ b ∷ []) = two_behind word a b
-command_of (word ∷ a ∷ []) = gen_of word a 1
+command_of (word ∷ a ∷ []) = gen_of word a (Some 1)
 command_of _ = None
 
 -- what is asked has 1 to 8 workers, and a ladder an odd number of columns from 3 to 21

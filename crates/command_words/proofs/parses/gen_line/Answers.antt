@@ -1,0 +1,15 @@
+use Rattle.std.proofs.Common.{ap, ap₂, ◌∙◌}
+use Rattle.std.proofs.lemmas.Result.{IfErr-weaker, IfOk-weaker}
+use Rattle.clap.specs.Words.{is_simple, matches_of, takes}
+use Rattle.command_words.proofs.ParseLemmas.{gen_found, gen_taken}
+use Rattle.command_words.proofs.parses.gen_line.Goals as goal
+
+pub returns-clause-ok : goal.returns-clause-ok
+returns-clause-ok c = λ word a last is.
+    let app = c.in_ok-command.ensures in
+    IfOk-weaker c.try_get_matches_from.result _ _ (λ m h. gen_found m word a last ((h (ap is_simple app)).0 ∙ ap₂ matches_of app is)) c.try_get_matches_from.ensures.matches
+
+pub returns-clause-err : goal.returns-clause-err
+returns-clause-err c = λ word a last is.
+    let app = c.in_ok-command.ensures in
+    IfErr-weaker c.try_get_matches_from.result _ _ (λ e h. h (ap₂ takes app is ∙ gen_taken word a last)) c.try_get_matches_from.ensures.passes
