@@ -1,0 +1,15 @@
+//! Laws of conversations, one after the other.
+
+ghost use Rattle.serving.specs.Repeats.{RepeatsActOnce, RepeatsAreAnswered, TurnsAreSteps};
+
+/// Conversations that ask again for what was accepted before change nothing: without them the others leave the same
+/// state. Each gets the reply that is kept under its key, or 507.
+pub fn law_of_repeats()
+    ensures once { RepeatsActOnce }
+    ensures answered { RepeatsAreAnswered }
+{}
+
+/// Conversations that were served one after the other are steps, of which the law of repeats speaks.
+pub fn law_of_turns()
+    ensures { TurnsAreSteps }
+{}
