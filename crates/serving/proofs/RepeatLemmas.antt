@@ -1,7 +1,6 @@
 -- A conversation that asks again leaves the state as it is.
 use Rattle.std.proofs.Common.{◌≡◌, ℕ, ◌⊎◌, inl, inr, List, [], ◌∷◌, ◌++◌, take, length, Option, None, Some, Result, Ok, Err, ap, sym, subst, refl, ◌∙◌, arith}
 use Rattle.std.proofs.lemmas.List.{map-append, take_all}
-use Rattle.outside.specs.Faults.{Rose}
 use Rattle.desk_tables.specs.Valid.{IsValid}
 use Rattle.desk_tables.specs.Tables.{user_of, review_of, certificate_of}
 use Rattle.desk_tables.specs.declared.rows.User.{User}
@@ -23,11 +22,11 @@ use Rattle.desk_requests.proofs.OneLemmas.{asks_one}
 use Rattle.desk_replies.specs.declared.giving.Media.TheVariants.{Json}
 use Rattle.http_desk.specs.declared.serving.Served.{Served}
 use Rattle.http_desk.specs.declared.serving.Served.TheVariants.{Replied, DoorFault}
-use Rattle.http_desk.specs.Answer.{Answered, Answer, answered, performed, shown, shown_to, about_review, about_report, report_of, told, AnswersNew, AsksNew}
+use Rattle.http_desk.specs.Answer.{Answered, Answer, answered, performed, shown_to, about_review, about_report, report_of, told, AnswersNew, AsksNew}
 use Rattle.http_desk.specs.Serves.{IsServed, IsReply, defined, store_fault, no_memory, no_room, text_of}
 use Rattle.http_desk.proofs.OneLemmas.{one_answer, acts_once}
 use Rattle.serving.specs.Turns.{Moment, IsTurn, AreTurns, none, behind, AreAccepted}
-use Rattle.serving.specs.Repeats.{Fate, Done, Lost, IsDone, Conversation, Leaves, IsStep, AreSteps, Accepts, HaveAccepted, AsksAgain, LeaveOutRepeats, Gives, inputs_of, SpeaksOfWant, AreGiven}
+use Rattle.serving.specs.Repeats.{Fate, Done, Lost, IsDone, Conversation, Leaves, IsStep, AreSteps, HaveAccepted, AsksAgain, LeaveOutRepeats, Gives, inputs_of, SpeaksOfWant, AreGiven}
 use Rattle.serving.proofs.TurnLemmas.{run_more}
 use Rattle.serving.proofs.SoundLemmas.{asks_sound}
 
@@ -76,11 +75,17 @@ performed_moved : (j : Judging) (s : State) (input : List ℕ) (r : Request) (no
     → now ≡ next j s r → Moved j s input Done now
 performed_moved j s input r now (Accepted t reply) is asks e = inr (r, asks, subst (λ (o : Outcome). IsAccepted o) (sym is) tt, e)
 performed_moved j s input r now (Repeated reply) is asks e =
-    inl (e ∙ ap (λ (o : Outcome). record s { tables = tables_after s.tables o }) is, λ q done also new.
-    subst (λ (o : Outcome). IsAccepted o) is (subst (λ (x : Request). IsAccepted (judged j s x)) (same_request input q r also asks) new))
+    inl (
+      e ∙ ap (λ (o : Outcome). record s { tables = tables_after s.tables o }) is,
+      λ q done also new.
+          subst (λ (o : Outcome). IsAccepted o) is (subst (λ (x : Request). IsAccepted (judged j s x)) (same_request input q r also asks) new),
+    )
 performed_moved j s input r now (Refused rule) is asks e =
-    inl (e ∙ ap (λ (o : Outcome). record s { tables = tables_after s.tables o }) is, λ q done also new.
-    subst (λ (o : Outcome). IsAccepted o) is (subst (λ (x : Request). IsAccepted (judged j s x)) (same_request input q r also asks) new))
+    inl (
+      e ∙ ap (λ (o : Outcome). record s { tables = tables_after s.tables o }) is,
+      λ q done also new.
+          subst (λ (o : Outcome). IsAccepted o) is (subst (λ (x : Request). IsAccepted (judged j s x)) (same_request input q r also asks) new),
+    )
 
 answered_moved : (j : Judging) (s : State) (input : List ℕ) (now : State) (a : Result Asked HttpRefusal) → Asks input a → now ≡ (answered j s a).next → Moved j s input Done now
 answered_moved j s input now (Err refusal) asks e = inl (e, λ q done also new. absurd (cc (asks_one input (Ok (AskedCommand q)) (Err refusal) also asks)))
@@ -115,20 +120,26 @@ record Past (j : Judging) (s : State) (cs : List Conversation) (now : State) (re
 -- one conversation before others
 past_more : (j : Judging) (s n now : State) (c : Conversation) (cs : List Conversation) (requests : List Request) → IsStep j s c n → Past j n cs now requests
     → Moved j s c.input c.fate n → (rs : List Request) × Past j s (c ∷ cs) now rs
-past_more j s n now c cs requests step p (inl (same, never)) = (requests, record {
-  accepted = subst (λ (z : State). AreAccepted j z requests) same p.accepted;
-  state = p.state ∙ ap (λ (z : State). run j z requests) same;
-  all = all;
-})
+past_more j s n now c cs requests step p (inl (same, never)) = (
+  requests,
+  record {
+    accepted = subst (λ (z : State). AreAccepted j z requests) same p.accepted;
+    state = p.state ∙ ap (λ (z : State). run j z requests) same;
+    all = all;
+  },
+)
   where
     all : (r : Request) → HaveAccepted j s (c ∷ cs) r → IsOneOf r requests
     all r (inl (done, asks, new)) = absurd (never r done asks new)
     all r (inr (m, also, later)) = p.all r (subst (λ (z : State). HaveAccepted j z cs r) (one_step j c s s m n refl also step) later)
-past_more j s n now c cs requests step p (inr (q, asked, accepted, to)) = (q ∷ requests, record {
-  accepted = (asks_sound c.input q asked, accepted, subst (λ (z : State). AreAccepted j z requests) to p.accepted);
-  state = p.state ∙ ap (λ (z : State). run j z requests) to;
-  all = all;
-})
+past_more j s n now c cs requests step p (inr (q, asked, accepted, to)) = (
+  q ∷ requests,
+  record {
+    accepted = (asks_sound c.input q asked, accepted, subst (λ (z : State). AreAccepted j z requests) to p.accepted);
+    state = p.state ∙ ap (λ (z : State). run j z requests) to;
+    all = all;
+  },
+)
   where
     all : (r : Request) → HaveAccepted j s (c ∷ cs) r → IsOneOf r (q ∷ requests)
     all r (inl (done, asks, new)) = inl (same_request c.input q r asked asks)

@@ -1,7 +1,7 @@
 -- A command that a conversation asks for is one of which the desk can be asked.
-use Rattle.std.proofs.Common.{◌≡◌, ◌≤◌, ◌&&◌, ◌==◌, ℕ, Bool, true, false, List, [], ◌∷◌, length, take, drop, map, Option, None, Some, Result, Ok, Err, Less, Equal, Greater, option_map, option_and_then, ap, ap₂, sym, subst, refl, ◌∙◌, if◌then◌else◌, arith}
+use Rattle.std.proofs.Common.{◌≡◌, ◌≤◌, ◌&&◌, ◌==◌, ℕ, Bool, true, false, List, length, take, drop, Option, None, Some, Result, Ok, Err, Less, Equal, Greater, option_map, option_and_then, ap, ap₂, sym, subst, refl, ◌∙◌, if◌then◌else◌, arith}
 use Rattle.std.specs.Prelude.{codes, nat_le, nat_lt}
-use Rattle.std.specs.List.{All, list_all}
+use Rattle.std.specs.List.{list_all}
 use Rattle.std.specs.Ordering.{is_lt, match_ordering, ordering_reverse}
 use Rattle.std.specs.Str.{is_utf8}
 use Rattle.std.specs.declared.cmp.Ordering.{Ordering}
@@ -24,7 +24,7 @@ use Rattle.review_rules.specs.declared.requests.Command.TheVariants.{SetPolicy, 
 use Rattle.desk_requests.specs.Head.{framed}
 use Rattle.desk_requests.specs.Paths.{path_of}
 use Rattle.desk_requests.specs.Fields.{value_named}
-use Rattle.desk_requests.specs.Plans.{Fields, Plans, planned, heard_from, heard_as, heard_with, plan_from, path_plan, fields_plan, plan_at, body_of, size_of, is_allowed, stand_once, token_in, key_in}
+use Rattle.desk_requests.specs.Plans.{Fields, Plans, heard_from, heard_with, plan_from, path_plan, fields_plan, plan_at, body_of, size_of, is_allowed, stand_once, token_in, key_in}
 use Rattle.desk_requests.specs.Bodies.{AreFiles, file_with, with_file, files_in, files_at, text_at, number_at, members_of, data_of, if_count, policy_with, policy_in, submit_with, submit_in, plain_in, command_with, command_in, command_of}
 use Rattle.desk_requests.specs.Asks.{Asks, AsksFramed, asked, asked_with, with_command, commanded}
 use Rattle.desk_requests.specs.declared.refusals.HttpRefusal.{HttpRefusal}
