@@ -1,5 +1,5 @@
 -- A conversation that asks again leaves the state as it is.
-use Rattle.std.proofs.Common.{◌≡◌, ℕ, ◌⊎◌, inl, inr, List, [], ◌∷◌, ◌++◌, take, length, Option, None, Some, Result, Ok, Err, ap, sym, subst, refl, ◌∙◌, arith}
+use Rattle.std.proofs.Common.{◌≡◌, ℕ, ◌<◌, ◌⊎◌, inl, inr, List, [], ◌∷◌, ◌++◌, take, length, length-append, codes, decimal, Option, None, Some, Result, Ok, Err, ap, sym, subst, refl, ◌∙◌, arith}
 use Rattle.std.proofs.lemmas.List.{map-append, take_all}
 use Rattle.desk_tables.specs.Valid.{IsValid}
 use Rattle.desk_tables.specs.Tables.{user_of, review_of, certificate_of}
@@ -8,10 +8,12 @@ use Rattle.desk_tables.specs.declared.rows.ReviewRow.{ReviewRow}
 use Rattle.desk_tables.specs.declared.rows.CertificateRow.{CertificateRow}
 use Rattle.review_rules.specs.State.{State}
 use Rattle.review_rules.specs.Rules.{Outcome, Repeated, Refused, Accepted}
-use Rattle.review_rules.specs.Judging.{IsRequest, Judging, IsJudging, judged}
-use Rattle.review_rules.specs.Laws.{IsAccepted, run, next, tables_after, with_accepted, IsOneOf, AreRequests, LeavesOutRepeats}
+use Rattle.review_rules.specs.Judging.{Judging, IsJudging, answer_of, judged}
+use Rattle.review_rules.specs.Laws.{IsAccepted, next, tables_after}
 use Rattle.review_rules.specs.declared.requests.Request.{Request}
-use Rattle.review_rules.proofs.RepeatLemmas.{repeats_change_nothing}
+use Rattle.review_rules.proofs.ValidLemmas.{tables_stay_valid}
+use Rattle.review_rules.proofs.RepeatLemmas.{answer_names}
+use Rattle.review_rules.proofs.KeptLemmas.{kept_replies_stay, accepted_are_kept}
 use Rattle.desk_requests.specs.Asks.{Asks}
 use Rattle.desk_requests.specs.declared.refusals.HttpRefusal.{HttpRefusal}
 use Rattle.desk_requests.specs.declared.requests.Asked.{Asked}
@@ -19,26 +21,17 @@ use Rattle.desk_requests.specs.declared.requests.Asked.TheVariants.{Query as Ask
 use Rattle.desk_requests.specs.declared.requests.Query.{Query}
 use Rattle.desk_requests.specs.declared.requests.Query.TheVariants.{Head, Review, Report}
 use Rattle.desk_requests.proofs.OneLemmas.{asks_one}
+use Rattle.desk_replies.specs.declared.giving.Media.{Media}
 use Rattle.desk_replies.specs.declared.giving.Media.TheVariants.{Json}
+use Rattle.desk_replies.specs.Replies.{reply_text, status_line, content, phrase}
 use Rattle.http_desk.specs.declared.serving.Served.{Served}
 use Rattle.http_desk.specs.declared.serving.Served.TheVariants.{Replied, DoorFault}
 use Rattle.http_desk.specs.Answer.{Answered, Answer, answered, performed, shown_to, about_review, about_report, report_of, told, AnswersNew, AsksNew}
 use Rattle.http_desk.specs.Serves.{IsServed, IsReply, defined, store_fault, no_memory, no_room, text_of}
 use Rattle.http_desk.proofs.OneLemmas.{one_answer, acts_once}
-use Rattle.serving.specs.Turns.{Moment, IsTurn, AreTurns, none, behind, AreAccepted}
-use Rattle.serving.specs.Repeats.{Fate, Done, Lost, IsDone, Conversation, Leaves, IsStep, AreSteps, HaveAccepted, AsksAgain, LeaveOutRepeats, Gives, inputs_of, SpeaksOfWant, AreGiven}
-use Rattle.serving.proofs.TurnLemmas.{run_more}
+use Rattle.serving.specs.Turns.{Moment, IsTurn, AreTurns, none, behind}
+use Rattle.serving.specs.Repeats.{Fate, Done, Lost, IsDone, Conversation, Leaves, IsStep, AreSteps, HaveAccepted, WasAccepted, AsksAgain, LeaveOutRepeats, Gives, inputs_of, SpeaksOfWant, AreGiven}
 use Rattle.serving.proofs.SoundLemmas.{asks_sound}
-
--- ---- what is asked
-
-abbrev request_or : Request → Result Asked HttpRefusal → Request
-request_or other (Ok (AskedCommand r)) = r
-request_or other (Ok (AskedQuery token query)) = other
-request_or other (Err refusal) = other
-
-same_request : (input : List ℕ) (q r : Request) → Asks input (Ok (AskedCommand q)) → Asks input (Ok (AskedCommand r)) → q ≡ r
-same_request input q r x y = ap (request_or q) (asks_one input (Ok (AskedCommand q)) (Ok (AskedCommand r)) x y)
 
 -- ---- the state after an answer
 
@@ -65,37 +58,28 @@ performed_next s r (Repeated reply) = refl
 performed_next s r (Refused rule) = refl
 performed_next s r (Accepted t reply) = refl
 
--- the state is as before, and nothing was accepted; or it is that of the request that was accepted
-abbrev Moved : Judging → State → List ℕ → Fate → State → Type 0
-Moved j s input fate now =
-    ((now ≡ s) × ((r : Request) → IsDone fate → Asks input (Ok (AskedCommand r)) → IsAccepted (judged j s r) → ⊥))
-    ⊎ ((r : Request) × Asks input (Ok (AskedCommand r)) × IsAccepted (judged j s r) × (now ≡ next j s r))
+-- the state is as before, or that behind the request that was asked for
+abbrev Moved : Judging → State → List ℕ → State → Type 0
+Moved j s input now = (now ≡ s) ⊎ ((r : Request) × Asks input (Ok (AskedCommand r)) × (now ≡ next j s r))
 
-performed_moved : (j : Judging) (s : State) (input : List ℕ) (r : Request) (now : State) (o : Outcome) → judged j s r ≡ o → Asks input (Ok (AskedCommand r))
-    → now ≡ next j s r → Moved j s input Done now
-performed_moved j s input r now (Accepted t reply) is asks e = inr (r, asks, subst (λ (o : Outcome). IsAccepted o) (sym is) tt, e)
-performed_moved j s input r now (Repeated reply) is asks e =
-    inl (
-      e ∙ ap (λ (o : Outcome). record s { tables = tables_after s.tables o }) is,
-      λ q done also new.
-          subst (λ (o : Outcome). IsAccepted o) is (subst (λ (x : Request). IsAccepted (judged j s x)) (same_request input q r also asks) new),
-    )
-performed_moved j s input r now (Refused rule) is asks e =
-    inl (
-      e ∙ ap (λ (o : Outcome). record s { tables = tables_after s.tables o }) is,
-      λ q done also new.
-          subst (λ (o : Outcome). IsAccepted o) is (subst (λ (x : Request). IsAccepted (judged j s x)) (same_request input q r also asks) new),
-    )
+answered_moved : (j : Judging) (s : State) (input : List ℕ) (now : State) (a : Result Asked HttpRefusal) → Asks input a → now ≡ (answered j s a).next → Moved j s input now
+answered_moved j s input now (Err refusal) asks e = inl e
+answered_moved j s input now (Ok (AskedQuery token query)) asks e = inl (e ∙ shown_stays s (user_of s.users token) query)
+answered_moved j s input now (Ok (AskedCommand r)) asks e = inr (r, asks, e ∙ performed_next s r (judged j s r))
 
-answered_moved : (j : Judging) (s : State) (input : List ℕ) (now : State) (a : Result Asked HttpRefusal) → Asks input a → now ≡ (answered j s a).next → Moved j s input Done now
-answered_moved j s input now (Err refusal) asks e = inl (e, λ q done also new. absurd (cc (asks_one input (Ok (AskedCommand q)) (Err refusal) also asks)))
-answered_moved j s input now (Ok (AskedQuery token query)) asks e =
-    inl (e ∙ shown_stays s (user_of s.users token) query, λ q done also new. absurd (cc (asks_one input (Ok (AskedCommand q)) (Ok (AskedQuery token query)) also asks)))
-answered_moved j s input now (Ok (AskedCommand r)) asks e = performed_moved j s input r now (judged j s r) refl asks (e ∙ performed_next s r (judged j s r))
-
-moved : (j : Judging) (s : State) (input : List ℕ) (fate : Fate) (now : State) → Leaves j s input fate now → Moved j s input fate now
+moved : (j : Judging) (s : State) (input : List ℕ) (fate : Fate) (now : State) → Leaves j s input fate now → Moved j s input now
 moved j s input Done now x = answered_moved j s input now x.1.0 x.1.1 (x.2 ∙ ap (λ (a : Answered). a.next) (sym x.1.2))
-moved j s input Lost now e = inl (e, λ r done asks new. absurd done)
+moved j s input Lost now e = inl e
+
+-- a command that is asked for has one answer
+answer_next : (j : Judging) (s : State) (input : List ℕ) (r : Request) (answer : Answered) → Asks input (Ok (AskedCommand r)) → Answer j s input answer → answer.next ≡ next j s r
+answer_next j s input r answer asks x =
+    ap (λ (n : Answered). n.next) (one_answer j s input answer (performed s r.command (judged j s r)) x (Ok (AskedCommand r), asks, refl))
+    ∙ performed_next s r (judged j s r)
+
+done_next : (j : Judging) (s : State) (input : List ℕ) (fate : Fate) (r : Request) (now : State) → IsDone fate → Asks input (Ok (AskedCommand r)) → Leaves j s input fate now → now ≡ next j s r
+done_next j s input Done r now done asks x = x.2 ∙ answer_next j s input r x.0 asks x.1
+done_next j s input Lost r now done asks e = absurd done
 
 -- ---- a step leaves one state
 
@@ -110,84 +94,45 @@ step_more : (j : Judging) (cs : List Conversation) (c : Conversation) (s m now :
 step_more j [] c s m now e step = (now, subst (λ (z : State). IsStep j z c now) e step, refl)
 step_more j (d ∷ cs) c s m now (n, first, more) step = (n, first, step_more j cs c n m now more step)
 
--- ---- the requests that were accepted in conversations
+-- ---- a request that was accepted before is kept
 
-record Past (j : Judging) (s : State) (cs : List Conversation) (now : State) (requests : List Request) : Type 0 where
-  pub accepted : AreAccepted j s requests
-  pub state : now ≡ run j s requests
-  pub all : (r : Request) → HaveAccepted j s cs r → IsOneOf r requests
+kept_stays : (j : Judging) (s : State) (r : Request) (reply : List ℕ) → judged j s r ≡ Repeated reply → next j s r ≡ s
+kept_stays j s r reply kept = ap (λ (o : Outcome). record s { tables = tables_after s.tables o }) kept
 
--- one conversation before others
-past_more : (j : Judging) (s n now : State) (c : Conversation) (cs : List Conversation) (requests : List Request) → IsStep j s c n → Past j n cs now requests
-    → Moved j s c.input c.fate n → (rs : List Request) × Past j s (c ∷ cs) now rs
-past_more j s n now c cs requests step p (inl (same, never)) = (
-  requests,
-  record {
-    accepted = subst (λ (z : State). AreAccepted j z requests) same p.accepted;
-    state = p.state ∙ ap (λ (z : State). run j z requests) same;
-    all = all;
-  },
-)
-  where
-    all : (r : Request) → HaveAccepted j s (c ∷ cs) r → IsOneOf r requests
-    all r (inl (done, asks, new)) = absurd (never r done asks new)
-    all r (inr (m, also, later)) = p.all r (subst (λ (z : State). HaveAccepted j z cs r) (one_step j c s s m n refl also step) later)
-past_more j s n now c cs requests step p (inr (q, asked, accepted, to)) = (
-  q ∷ requests,
-  record {
-    accepted = (asks_sound c.input q asked, accepted, subst (λ (z : State). AreAccepted j z requests) to p.accepted);
-    state = p.state ∙ ap (λ (z : State). run j z requests) to;
-    all = all;
-  },
-)
-  where
-    all : (r : Request) → HaveAccepted j s (c ∷ cs) r → IsOneOf r (q ∷ requests)
-    all r (inl (done, asks, new)) = inl (same_request c.input q r asked asks)
-    all r (inr (m, also, later)) = inr (p.all r (subst (λ (z : State). HaveAccepted j z cs r) (one_step j c s s m n refl also step) later))
+valid_after : (j : Judging) (s now : State) (input : List ℕ) → IsJudging j → IsValid s.tables → Moved j s input now → IsValid now.tables
+valid_after j s now input well valid (inl same) = subst (λ (z : State). IsValid z.tables) (sym same) valid
+valid_after j s now input well valid (inr (r, asks, to)) =
+    subst (λ (z : State). IsValid z.tables) (sym to) (tables_stay_valid s r (answer_of j s r) valid (asks_sound input r asks) (answer_names j s r well))
 
-past_of : (j : Judging) (cs : List Conversation) (s now : State) → AreSteps j s cs now → (rs : List Request) × Past j s cs now rs
-past_of j [] s now e = ([], record { accepted = tt; state = e; all = λ r h. absurd h })
-past_of j (c ∷ cs) s now (n, step, more) =
-    let p = past_of j cs n now more in
-    past_more j s n now c cs p.0 step p.1 (moved j s c.input c.fate n step)
+kept_after : (j : Judging) (s now : State) (input : List ℕ) (r : Request) (reply : List ℕ) → IsJudging j → IsValid s.tables → Moved j s input now → judged j s r ≡ Repeated reply → judged j now r ≡ Repeated reply
+kept_after j s now input r reply well valid (inl same) kept = subst (λ (z : State). judged j z r ≡ Repeated reply) (sym same) kept
+kept_after j s now input r reply well valid (inr (q, asks, to)) kept =
+    subst (λ (z : State). judged j z r ≡ Repeated reply) (sym to) (kept_replies_stay j s r reply (q ∷ []) well valid (asks_sound input q asks, tt) kept)
 
--- ---- a request that was accepted before
+kept_later : (j : Judging) (cs : List Conversation) (s now : State) (r : Request) (reply : List ℕ) → IsJudging j → IsValid s.tables → AreSteps j s cs now → judged j s r ≡ Repeated reply → judged j now r ≡ Repeated reply
+kept_later j [] s now r reply well valid e kept = subst (λ (z : State). judged j z r ≡ Repeated reply) (sym e) kept
+kept_later j (c ∷ cs) s now r reply well valid (n, step, more) kept =
+    let to = moved j s c.input c.fate n step in
+    kept_later j cs n now r reply well (valid_after j s n c.input well valid to) more (kept_after j s n c.input r reply well valid to kept)
 
-are_requests : (j : Judging) (s : State) (rs : List Request) (r : Request) → AreAccepted j s rs → IsRequest r → AreRequests (rs ++ (r ∷ []))
-are_requests j s [] r all is = (is, tt)
-are_requests j s (q ∷ qs) r all is = (all.0, are_requests j (next j s q) qs r all.2 is)
+accepted_later : (j : Judging) (cs : List Conversation) (s now : State) (r : Request) (reply : List ℕ) → IsJudging j → IsValid s.tables → AreSteps j s cs now → HaveAccepted j s cs r reply → judged j now r ≡ Repeated reply
+accepted_later j [] s now r reply well valid e had = absurd had
+accepted_later j (c ∷ cs) s now r reply well valid (n, step, more) (inl (done, asks, (tables, is))) =
+    let to = done_next j s c.input c.fate r n done asks step in
+    let kept = subst (λ (z : State). judged j z r ≡ Repeated reply) (sym to) (accepted_are_kept j s r tables reply valid is) in
+    kept_later j cs n now r reply well (valid_after j s n c.input well valid (moved j s c.input c.fate n step)) more kept
+accepted_later j (c ∷ cs) s now r reply well valid (n, step, more) (inr (m, also, later)) =
+    let had = subst (λ (z : State). HaveAccepted j z cs r reply) (one_step j c s s m n refl also step) later in
+    accepted_later j cs n now r reply well (valid_after j s n c.input well valid (moved j s c.input c.fate n step)) more had
 
-among : (q r : Request) (qs done : List Request) (o : Outcome) → IsAccepted o → IsOneOf r done ⊎ ((q ≡ r) ⊎ IsOneOf r qs) → IsOneOf r (with_accepted q o done) ⊎ IsOneOf r qs
-among q r qs done (Accepted t reply) new (inl before) = inl (inr before)
-among q r qs done (Accepted t reply) new (inr (inl same)) = inl (inl same)
-among q r qs done (Accepted t reply) new (inr (inr later)) = inr later
-among q r qs done (Repeated reply) new one = absurd new
-among q r qs done (Refused rule) new one = absurd new
-
-leaves_out : (j : Judging) (rs : List Request) (s : State) (done : List Request) (r : Request) → AreAccepted j s rs → IsOneOf r done ⊎ IsOneOf r rs → LeavesOutRepeats j s done (rs ++ (r ∷ [])) rs
-leaves_out j [] s done r all (inl before) = inl (before, refl)
-leaves_out j [] s done r all (inr never) = absurd never
-leaves_out j (q ∷ qs) s done r all one = inr (qs, refl, leaves_out j qs (next j s q) (with_accepted q (judged j s q) done) r all.2 (among q r qs done (judged j s q) all.1 one))
-
-next_stays : (j : Judging) (s now : State) (cs : List Conversation) (rs : List Request) (r : Request) → IsJudging j → IsValid s.tables → IsRequest r → Past j s cs now rs → HaveAccepted j s cs r → next j now r ≡ now
-next_stays j s now cs rs r well valid is p had =
-    ap (λ (z : State). next j z r) p.state
-    ∙ sym (run_more j s rs r)
-    ∙ repeats_change_nothing j s (rs ++ (r ∷ [])) rs well valid (are_requests j s rs r p.accepted is) (leaves_out j rs s [] r p.accepted (inr (p.all r had)))
-    ∙ sym p.state
-
-again_stays : (j : Judging) (s now : State) (cs : List Conversation) (input : List ℕ) (r : Request) → IsJudging j → IsValid s.tables → AreSteps j s cs now → Asks input (Ok (AskedCommand r)) → HaveAccepted j s cs r → next j now r ≡ now
-again_stays j s now cs input r well valid steps asks had =
-    let p = past_of j cs s now steps in
-    next_stays j s now cs p.0 r well valid (asks_sound input r asks) p.1 had
+again_kept : (j : Judging) (cs : List Conversation) (s now : State) (r : Request) (reply : List ℕ) → IsJudging j → IsValid s.tables → AreSteps j s cs now → WasAccepted j s cs r reply → judged j now r ≡ Repeated reply
+again_kept j cs s now r reply well valid steps (inl kept) = kept_later j cs s now r reply well valid steps kept
+again_kept j cs s now r reply well valid steps (inr had) = accepted_later j cs s now r reply well valid steps had
 
 -- ---- a conversation that asks for it again
 
 answer_again : (j : Judging) (m : State) (input : List ℕ) (r : Request) (answer : Answered) → Asks input (Ok (AskedCommand r)) → next j m r ≡ m → Answer j m input answer → answer.next ≡ m
-answer_again j m input r answer asks stays x =
-    ap (λ (n : Answered). n.next) (one_answer j m input answer (performed m r.command (judged j m r)) x (Ok (AskedCommand r), asks, refl))
-    ∙ performed_next m r (judged j m r)
-    ∙ stays
+answer_again j m input r answer asks stays x = answer_next j m input r answer asks x ∙ stays
 
 step_again : (j : Judging) (m : State) (input : List ℕ) (fate : Fate) (r : Request) (now : State) → Asks input (Ok (AskedCommand r)) → next j m r ≡ m → Leaves j m input fate now → now ≡ m
 step_again j m input Done r now asks stays (answer, x, e) = e ∙ answer_again j m input r answer asks stays x
@@ -199,8 +144,9 @@ lists_act_once : (j : Judging) (s : State) (long past short : List Conversation)
     → AreSteps j s past m → m ≡ n → LeaveOutRepeats j s past long short → AreSteps j m long a → AreSteps j n short b → a ≡ b
 lists_act_once j s [] past short m n a b well valid before e none_left x y =
     x ∙ e ∙ sym (subst (λ (cs : List Conversation). AreSteps j n cs b) none_left y)
-lists_act_once j s (c ∷ long) past short m n a b well valid before e (inl ((r, asks, had), out)) (k, step, more) y =
-    let same = step_again j m c.input c.fate r k asks (again_stays j s m past c.input r well valid before asks had) step in
+lists_act_once j s (c ∷ long) past short m n a b well valid before e (inl ((reply, (r, asks, was)), out)) (k, step, more) y =
+    let kept = again_kept j past s m r reply well valid before was in
+    let same = step_again j m c.input c.fate r k asks (kept_stays j m r reply kept) step in
     lists_act_once j s long (past ++ (c ∷ [])) short k n a b well valid (step_more j past c s m k before step) (same ∙ e) out more y
 lists_act_once j s (c ∷ long) past short m n a b well valid before e (inr (rest, same, out)) (k, step, more) y =
     let z = subst (λ (cs : List Conversation). AreSteps j n cs b) same y in
@@ -243,24 +189,32 @@ gives_whole : (m : State) (reply : List ℕ) (code : ℕ) (answer : Answered) (g
 gives_whole m reply code answer given (inl e) c g = inl (subst (λ (x : Answered). Gives (Replied code) x given) e (c, g))
 gives_whole m reply code answer given (inr e) c g = inr (subst (λ (x : Answered). Gives (Replied code) x given) e (c, g))
 
-gives_part : (m : State) (reply : List ℕ) (answer : Answered) (k : ℕ) (given : List ℕ) → (answer ≡ told m Json reply) ⊎ (answer ≡ no_room m) → given ≡ take k (text_of answer)
+gives_part : (m : State) (reply : List ℕ) (answer : Answered) (k : ℕ) (given : List ℕ) → (answer ≡ told m Json reply) ⊎ (answer ≡ no_room m) → k < length (text_of answer) → given ≡ take k (text_of answer)
     → GivesEither m reply DoorFault given
-gives_part m reply answer k given (inl e) g = inl (subst (λ (x : Answered). Gives DoorFault x given) e (k, g))
-gives_part m reply answer k given (inr e) g = inr (subst (λ (x : Answered). Gives DoorFault x given) e (k, g))
+gives_part m reply answer k given (inl e) part g = inl (subst (λ (x : Answered). Gives DoorFault x given) e (k, part, g))
+gives_part m reply answer k given (inr e) part g = inr (subst (λ (x : Answered). Gives DoorFault x given) e (k, part, g))
+
+-- a reply is not without bytes
+some_text : (code : ℕ) (media : Media) (body : List ℕ) → 0 < length (reply_text code media body)
+unfolding reply_text
+some_text code media body =
+    let line = length-append (codes "HTTP/1.1 ") (decimal code) in
+    let status = length-append (codes "HTTP/1.1 " ++ decimal code) (codes " " ++ phrase code) in
+    let whole = length-append (status_line code) (content media body) in
+    omega (arith, line, status, whole)
 
 served_again : (j : Judging) (m to : State) (input given : List ℕ) (before now : ℕ) (served : Served) (r : Request) (reply : List ℕ) → Asks input (Ok (AskedCommand r)) → judged j m r ≡ Repeated reply
     → IsServed j m input before now served to given → GivesEither m reply served given
 served_again j m to input given before now (Replied code) r reply asks kept x = gives_whole m reply code x.0 given (reply_again j m input before now x.0 r reply asks kept x.1) x.2 x.4
-served_again j m to input given before now DoorFault r reply asks kept (inl x) = inl (0, x.1)
-served_again j m to input given before now DoorFault r reply asks kept (inr x) = gives_part m reply x.0 x.3.0 given (reply_again j m input before now x.0 r reply asks kept x.1) x.3.2
+served_again j m to input given before now DoorFault r reply asks kept (inl x) = inl (0, some_text 200 Json reply, x.1)
+served_again j m to input given before now DoorFault r reply asks kept (inr x) = gives_part m reply x.0 x.3.0 given (reply_again j m input before now x.0 r reply asks kept x.1) x.3.1 x.3.2
 
-pub repeats_are_answered : (j : Judging) (s m to : State) (past : List Conversation) (input given : List ℕ) (before now : ℕ) (served : Served) → IsJudging j → IsValid s.tables
-    → AreSteps j s past m → AsksAgain j s past input → IsServed j m input before now served to given
-    → (to ≡ m) × ((r : Request) (reply : List ℕ) → Asks input (Ok (AskedCommand r)) → judged j m r ≡ Repeated reply → Gives served (told m Json reply) given ⊎ Gives served (no_room m) given)
-repeats_are_answered j s m to past input given before now served well valid steps (r, asks, had) x = (
-  served_stays j m to input given before now served r asks (again_stays j s m past input r well valid steps asks had) x,
-  λ q reply also kept. served_again j m to input given before now served q reply also kept x,
-)
+pub repeats_are_answered : (j : Judging) (s m to : State) (past : List Conversation) (input reply given : List ℕ) (before now : ℕ) (served : Served) → IsJudging j → IsValid s.tables
+    → AreSteps j s past m → AsksAgain j s past input reply → IsServed j m input before now served to given
+    → (to ≡ m) × (Gives served (told m Json reply) given ⊎ Gives served (no_room m) given)
+repeats_are_answered j s m to past input reply given before now served well valid steps (r, asks, was) x =
+    let kept = again_kept j past s m r reply well valid steps was in
+    (served_stays j m to input given before now served r asks (kept_stays j m r reply kept) x, served_again j m to input given before now served r reply asks kept x)
 
 -- ---- turns are steps
 

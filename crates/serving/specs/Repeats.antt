@@ -1,10 +1,10 @@
 -- Repeats act once: conversations that ask again for what was accepted change nothing. The rule is this project's own.
-use Rattle.std.specs.Prelude.{ℕ, ◌≡◌, ◌⊎◌, List, [], ◌∷◌, ◌++◌, Ok, map, take}
+use Rattle.std.specs.Prelude.{ℕ, ◌≡◌, ◌<◌, ◌⊎◌, List, [], ◌∷◌, ◌++◌, Ok, length, map, take}
 use Rattle.desk_tables.specs.Valid.{IsValid}
+use Rattle.desk_tables.specs.declared.rows.Rows.{Rows}
 use Rattle.review_rules.specs.State.{State}
-use Rattle.review_rules.specs.Rules.{Repeated}
+use Rattle.review_rules.specs.Rules.{Repeated, Accepted}
 use Rattle.review_rules.specs.Judging.{Judging, IsJudging, judged}
-use Rattle.review_rules.specs.Laws.{IsAccepted}
 use Rattle.review_rules.specs.declared.requests.Request.{Request}
 use Rattle.desk_requests.specs.Asks.{Asks}
 use Rattle.desk_requests.specs.declared.requests.Asked.TheVariants.{Command as AskedCommand}
@@ -44,24 +44,30 @@ abbrev pub AreSteps : Judging → State → List Conversation → State → Type
 AreSteps j s [] now = now ≡ s
 AreSteps j s (c ∷ cs) now = (m : State) × IsStep j s c m × AreSteps j m cs now
 
--- the conversation asked for the request, and it was accepted
-abbrev pub Accepts : Judging → State → Conversation → Request → Type 0
-Accepts j s c r = IsDone c.fate × Asks c.input (Ok (AskedCommand r)) × IsAccepted (judged j s r)
+-- the conversation asked for the request, and it was accepted with this reply
+abbrev pub Accepts : Judging → State → Conversation → Request → List ℕ → Type 0
+Accepts j s c r reply = IsDone c.fate × Asks c.input (Ok (AskedCommand r)) × ((tables : Rows) × (judged j s r ≡ Accepted tables reply))
 
--- one of the conversations did, served one after the other from this state
-abbrev pub HaveAccepted : Judging → State → List Conversation → Request → Type 0
-HaveAccepted j s [] r = ⊥
-HaveAccepted j s (c ∷ cs) r = Accepts j s c r ⊎ ((m : State) × IsStep j s c m × HaveAccepted j m cs r)
+-- it was, in one of the conversations, served one after the other from this state
+abbrev pub HaveAccepted : Judging → State → List Conversation → Request → List ℕ → Type 0
+HaveAccepted j s [] r reply = ⊥
+HaveAccepted j s (c ∷ cs) r reply = Accepts j s c r reply ⊎ ((m : State) × IsStep j s c m × HaveAccepted j m cs r reply)
 
--- this input asks again for what was accepted before: by the same user, under the same key, the same command
-abbrev pub AsksAgain : Judging → State → List Conversation → List ℕ → Type 0
-AsksAgain j s past input = (r : Request) × Asks input (Ok (AskedCommand r)) × HaveAccepted j s past r
+-- the request was accepted with this reply: its key is kept with the same command where those conversations began, or it
+-- was accepted in one of them
+abbrev pub WasAccepted : Judging → State → List Conversation → Request → List ℕ → Type 0
+WasAccepted j s past r reply = (judged j s r ≡ Repeated reply) ⊎ HaveAccepted j s past r reply
+
+-- this input asks again for what was accepted before with this reply: by the same user, under the same key, the same
+-- command
+abbrev pub AsksAgain : Judging → State → List Conversation → List ℕ → List ℕ → Type 0
+AsksAgain j s past input reply = (r : Request) × Asks input (Ok (AskedCommand r)) × WasAccepted j s past r reply
 
 -- with those conversations past, from this state on, the short list is the long one without some that ask again
 abbrev pub LeaveOutRepeats : Judging → State → List Conversation → List Conversation → List Conversation → Type 0
 LeaveOutRepeats j s past [] short = short ≡ []
 LeaveOutRepeats j s past (c ∷ long) short =
-    (AsksAgain j s past c.input × LeaveOutRepeats j s (past ++ (c ∷ [])) long short)
+    (((reply : List ℕ) × AsksAgain j s past c.input reply) × LeaveOutRepeats j s (past ++ (c ∷ [])) long short)
     ⊎ ((rest : List Conversation) × (short ≡ c ∷ rest) × LeaveOutRepeats j s (past ++ (c ∷ [])) long rest)
 
 -- conversations leave the state that they leave without those that ask again, where each of the others has the same
@@ -71,19 +77,18 @@ RepeatsActOnce =
     (j : Judging) (s a b : State) (long short : List Conversation)
     → IsJudging j → IsValid s.tables → LeaveOutRepeats j s [] long short → AreSteps j s long a → AreSteps j s short b → a ≡ b
 
--- the whole of the reply was given; or, where the door failed, a beginning of it
+-- the whole of the reply was given; or, where the door failed, a beginning of it, or nothing
 abbrev pub Gives : Served → Answered → List ℕ → Type 0
 Gives (Replied code) answer given = (answer.code ≡ code) × (given ≡ text_of answer)
-Gives DoorFault answer given = (k : ℕ) × (given ≡ take k (text_of answer))
+Gives DoorFault answer given = (k : ℕ) × (k < length (text_of answer)) × (given ≡ take k (text_of answer))
 
--- a conversation that asks again leaves the state as it is, whatever became of it; it is given the reply that is kept
--- under its key, or 507
+-- a conversation that asks again leaves the state as it is, whatever became of it; it is given the reply of the first
+-- time, or 507
 abbrev pub RepeatsAreAnswered : Type 0
 RepeatsAreAnswered =
-    (j : Judging) (s m next : State) (past : List Conversation) (input given : List ℕ) (before now : ℕ) (served : Served)
-    → IsJudging j → IsValid s.tables → AreSteps j s past m → AsksAgain j s past input → IsServed j m input before now served next given
-    → (next ≡ m) × ((r : Request) (reply : List ℕ) → Asks input (Ok (AskedCommand r)) → judged j m r ≡ Repeated reply
-    → Gives served (told m Json reply) given ⊎ Gives served (no_room m) given)
+    (j : Judging) (s m next : State) (past : List Conversation) (input reply given : List ℕ) (before now : ℕ) (served : Served)
+    → IsJudging j → IsValid s.tables → AreSteps j s past m → AsksAgain j s past input reply → IsServed j m input before now served next given
+    → (next ≡ m) × (Gives served (told m Json reply) given ⊎ Gives served (no_room m) given)
 
 abbrev pub inputs_of : List Conversation → List (List ℕ)
 inputs_of cs = map (λ (c : Conversation). c.input) cs

@@ -3,7 +3,7 @@
 ghost use Rattle.serving.specs.Repeats.{RepeatsActOnce, RepeatsAreAnswered, TurnsAreSteps};
 
 /// Conversations that ask again for what was accepted before change nothing: without them the others leave the same
-/// state. Each gets the reply that is kept under its key, or 507.
+/// state. Each gets the reply of the first time, or 507; or, where the door failed, a beginning of it, or nothing.
 pub fn law_of_repeats()
     ensures once { RepeatsActOnce }
     ensures answered { RepeatsAreAnswered }

@@ -4,7 +4,8 @@
 //! Stands on: `http_desk` for each of them, `doors`, `desk_keeper` and `review_rules`; that each command which is asked for
 //! is sound is proved over `json` and `serde_json`.
 //! Promises: `serve_all` serves as many as it is told, each from the state that the one before left; what is given to
-//! each is that of `http_desk`. Conversations that ask again for what was accepted change nothing. Not: how long one takes.
+//! each is that of `http_desk`. Conversations that ask again for what was accepted change nothing, and get the reply
+//! of the first time, or 507. Not: how long one takes.
 #![tactic(auto)]
 
 mod laws;
