@@ -5,5 +5,6 @@ pub mod ValidLemmas
 pub mod ChangeLemmas
 pub mod TakeLemmas
 pub mod RepeatLemmas
+pub mod KeptLemmas
 pub mod JudgeLemmas
 pub mod HeadsLemmas

@@ -41,32 +41,31 @@ use Rattle.review_rules.specs.Laws.{IsAccepted, tables_after, next, run, IsOneOf
 use Rattle.review_rules.proofs.AcceptLemmas.{IsPassed, accepted_passes, passed_accepts}
 use Rattle.review_rules.proofs.ValidLemmas.{tables_stay_valid, accepted_same}
 
--- the request was accepted: it is kept with the same command
-pub record IsDone (s : State) (q : Request) : Type 0 where
+-- the request was accepted: it is kept in this row, with the same command
+pub record IsDone (s : State) (q : Request) (row : KeptRow) : Type 0 where
   pub user : User
   pub asks : asker s q ≡ Some user
-  pub row : KeptRow
   pub kept : kept_of s.tables user.name q.key ≡ Some row
   pub same : same_command s.tables row q.command ≡ true
 
 abbrev pub AllDone : State → List Request → Type 0
 AllDone s [] = Unit {0}
-AllDone s (q ∷ qs) = IsDone s q × AllDone s qs
+AllDone s (q ∷ qs) = ((row : KeptRow) × IsDone s q row) × AllDone s qs
 
 -- what is done once more changes nothing
-repeated_stays : (j : Judging) (s : State) (r : Request) → IsDone s r → next j s r ≡ s
-repeated_stays j s r d =
+repeated_stays : (j : Judging) (s : State) (r : Request) (row : KeptRow) → IsDone s r row → next j s r ≡ s
+repeated_stays j s r row d =
     let a = answer_of j s r in
-    let once : repeated s r ≡ Some d.row = rw (d.asks, d.kept, d.same) refl in
+    let once : repeated s r ≡ Some row = rw (d.asks, d.kept, d.same) refl in
     ap (λ t. record s { tables = t }) (stays a (repeated s r) (first_broken (rules_of a r.command) s r) once)
   where
-    stays : (a : JudgeAnswer) (o : Option KeptRow) (broken : Option Rule) → o ≡ Some d.row → tables_after s.tables (outcome s r a o broken) ≡ s.tables
+    stays : (a : JudgeAnswer) (o : Option KeptRow) (broken : Option Rule) → o ≡ Some row → tables_after s.tables (outcome s r a o broken) ≡ s.tables
     stays a None broken is = absurd (cc)
     stays a (Some k) broken is = refl
 
 repeats_stay : (j : Judging) (s : State) (r : Request) (past : List Request) → AllDone s past → IsOneOf r past → next j s r ≡ s
 repeats_stay j s r [] done one = absurd one
-repeats_stay j s r (q ∷ qs) done (inl again) = repeated_stays j s r (subst (IsDone s) again done.0)
+repeats_stay j s r (q ∷ qs) done (inl again) = repeated_stays j s r done.0.0 (subst (λ x. IsDone s x done.0.0) again done.0.1)
 repeats_stay j s r (q ∷ qs) done (inr later) = repeats_stay j s r qs done.1 later
 
 -- none of the rows that pass one test passes another
@@ -295,23 +294,22 @@ same_still t user k a (Submit base title files) (Merge id) v same = same_changed
 same_still t user k a (Submit base title files) (Withdraw id) v same = same_changed t k base title files id withdrawn (λ r. refl) (λ r. refl) (λ r. refl) same
 same_still t user k a (Submit base title files) (Submit base' title' files') v same = same_submitted t user k base title files base' title' files' a v same
 
-done_as : (s : State) (r : Request) (a : JudgeAnswer) (user : List ℕ) (u : User) → asker s r ≡ Some u → user ≡ u.name → IsValid s.tables → IsDone (record s { tables = accepted_as s.tables user r a }) r
+done_as : (s : State) (r : Request) (a : JudgeAnswer) (user : List ℕ) (u : User) → asker s r ≡ Some u → user ≡ u.name → IsValid s.tables → IsDone (record s { tables = accepted_as s.tables user r a }) r (kept_row s.tables user r a)
 done_as s r a user u asks named v =
     let row = kept_row s.tables user r a in
     let found = find_put_same texts_cmp kept_key row (λ k. bytes_eq k.user user && bytes_eq k.key r.key) texts_total (λ k. texts_tie (kept_key k) (user, r.key)) (changed s.tables user a r.command).kept in
     record {
       user = u;
       asks = asks;
-      row = row;
       kept = subst (λ n. find (λ k. bytes_eq k.user n && bytes_eq k.key r.key) (put texts_cmp kept_key row (changed s.tables user a r.command).kept) ≡ Some row) named found;
       same = same_now s.tables user r.key (reply_of s.tables a r.command) a r.command v;
     }
 
-done_now : (s : State) (r : Request) (a : JudgeAnswer) → IsValid s.tables → IsPassed s r a → IsDone (record s { tables = accepted s r a }) r
+pub done_now : (s : State) (r : Request) (a : JudgeAnswer) → IsValid s.tables → IsPassed s r a → IsDone (record s { tables = accepted s r a }) r (kept_row s.tables (name_of (asker s r)) r a)
 done_now s r a v p = done_as s r a (name_of (asker s r)) p.user p.asks (ap name_of p.asks) v
 
-done_still : (s : State) (q r : Request) (a : JudgeAnswer) → IsValid s.tables → IsPassed s r a → IsDone s q → IsDone (record s { tables = accepted s r a }) q
-done_still s q r a v p d =
+pub done_still : (s : State) (q r : Request) (a : JudgeAnswer) (kept : KeptRow) → IsValid s.tables → IsPassed s r a → IsDone s q kept → IsDone (record s { tables = accepted s r a }) q kept
+done_still s q r a kept v p d =
     let user = name_of (asker s r) in
     let row = kept_row s.tables user r a in
     let named : user ≡ p.user.name = ap name_of p.asks in
@@ -320,20 +318,19 @@ done_still s q r a v p d =
     let parts = and_true _ _ both in
     let users : user ≡ d.user.name = bytes_same user d.user.name parts.0 in
     let keys : r.key ≡ q.key = bytes_same r.key q.key parts.1 in
-    let there : kept_of s.tables user r.key ≡ Some d.row = subst (λ n. kept_of s.tables n r.key ≡ Some d.row) (sym users) (subst (λ k. kept_of s.tables d.user.name k ≡ Some d.row) (sym keys) d.kept) in
+    let there : kept_of s.tables user r.key ≡ Some kept = subst (λ n. kept_of s.tables n r.key ≡ Some kept) (sym users) (subst (λ k. kept_of s.tables d.user.name k ≡ Some kept) (sym keys) d.kept) in
     absurd (cc (fresh, there))) in
     let stays = find_put_other texts_cmp kept_key row (d.user.name, q.key) (λ k. bytes_eq k.user d.user.name && bytes_eq k.key q.key) texts_total (λ k. texts_tie (kept_key k) (d.user.name, q.key)) other (changed s.tables user a r.command).kept in
     record {
       user = d.user;
       asks = d.asks;
-      row = d.row;
       kept = stays ∙ ap (find (λ k. bytes_eq k.user d.user.name && bytes_eq k.key q.key)) (kept_stays s.tables user a r.command) ∙ d.kept;
-      same = same_still s.tables user d.row a q.command r.command v d.same;
+      same = same_still s.tables user kept a q.command r.command v d.same;
     }
 
 all_still : (s : State) (r : Request) (a : JudgeAnswer) (past : List Request) → IsValid s.tables → IsPassed s r a → AllDone s past → AllDone (record s { tables = accepted s r a }) past
 all_still s r a [] v p done = tt
-all_still s r a (q ∷ qs) v p done = (done_still s q r a v p done.0, all_still s r a qs v p done.1)
+all_still s r a (q ∷ qs) v p done = ((done.0.0, done_still s q r a done.0.0 v p done.0.1), all_still s r a qs v p done.1)
 
 -- after a request all that was accepted is done
 done_after : (s : State) (r : Request) (a : JudgeAnswer) (past : List Request) → IsValid s.tables → AllDone s past → AllDone (record s { tables = tables_after s.tables (step s r a) }) (with_accepted r (step s r a) past)
@@ -345,10 +342,10 @@ done_after s r a past v done = by_outcome (step s r a) refl
     by_outcome (Accepted t reply) is =
         let passed = accepted_passes s r a (subst IsAccepted (sym is) tt) in
         let same : accepted s r a ≡ t = accepted_same (sym (passed_accepts s r a passed) ∙ is) in
-        subst (λ u. AllDone (record s { tables = u }) (r ∷ past)) same (done_now s r a v passed, all_still s r a past v passed done)
+        subst (λ u. AllDone (record s { tables = u }) (r ∷ past)) same ((kept_row s.tables (name_of (asker s r)) r a, done_now s r a v passed), all_still s r a past v passed done)
 
 -- what the judge means names no property that there is not
-answer_names : (j : Judging) (s : State) (r : Request) → IsJudging j → NamesProperty (answer_of j s r)
+pub answer_names : (j : Judging) (s : State) (r : Request) → IsJudging j → NamesProperty (answer_of j s r)
 answer_names j s r well = by_ask (judged_command j s.tables r.command) (ask_of s r) (by_command r.command)
   where
     by_command : (command : Command) → NamesProperty (judged_command j s.tables command)

@@ -98,3 +98,11 @@ AreRequests (r ∷ rs) = IsRequest r × AreRequests rs
 -- requests with repeats of accepted ones leave the state that they leave without them
 abbrev pub RepeatsChangeNothing : Type 0
 RepeatsChangeNothing = (j : Judging) (s : State) (long short : List Request) → IsJudging j → IsValid s.tables → AreRequests long → LeavesOutRepeats j s [] long short → run j s long ≡ run j s short
+
+-- a request that is repeated is repeated at every later state, with the same reply
+abbrev pub KeptRepliesStay : Type 0
+KeptRepliesStay = (j : Judging) (s : State) (r : Request) (reply : List ℕ) (later : List Request) → IsJudging j → IsValid s.tables → AreRequests later → judged j s r ≡ Repeated reply → judged j (run j s later) r ≡ Repeated reply
+
+-- a request that is accepted, asked again, is repeated with its reply
+abbrev pub AcceptedAreKept : Type 0
+AcceptedAreKept = (j : Judging) (s : State) (r : Request) (tables : Rows) (reply : List ℕ) → IsValid s.tables → judged j s r ≡ Accepted tables reply → judged j (next j s r) r ≡ Repeated reply

@@ -4,7 +4,8 @@
 //! accepted request changes, and its reply. Where the tables are kept, the keeper decides.
 //! Stands on: `net_types`, `desk_tables` and `stored_rows`. No request walks a whole table.
 //! Promises: each decision, change and answer is the one of `specs/`, for every desk and request; a merge
-//! is accepted exactly where it has all that it asks for, and repeats change nothing (`specs/Laws.antt`).
+//! is accepted exactly where it has all that it asks for, and repeats change nothing and get the reply of
+//! the first time (`specs/Laws.antt`).
 //! Not: that a judge is right.
 #![tactic(auto)]
 
@@ -25,7 +26,10 @@ pub use changes::{Change, ChangeKind, change_of};
 pub use deciding::{asks, decide};
 pub use desk::Desk;
 pub use judge::Judge;
-pub use laws::{law_of_decisions, law_of_merges, law_of_repeats, law_of_validity};
+pub use laws::{
+    law_of_decisions, law_of_kept_commands, law_of_kept_replies, law_of_merges, law_of_repeats,
+    law_of_validity,
+};
 pub use requests::{
     Ask, BundleSide, Command, Decision, JudgeAnswer, Lack, PolicyFault, Request, Rule,
 };

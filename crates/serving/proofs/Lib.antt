@@ -1,2 +1,4 @@
 pub mod TurnLemmas
 pub mod CalmLemmas
+pub mod SoundLemmas
+pub mod RepeatLemmas
