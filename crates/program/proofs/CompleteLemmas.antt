@@ -33,15 +33,15 @@ pub complete : (content : Content) (asked : Asked) (before : List ℕ) (after : 
     → IsComplete content asked before after status
 complete content asked before after ticks ticks_now status files files_now sink sink_now answers reads writes sound calm quiet =
     go (answers (λ four. calm (reads four)) (λ five. quiet (writes five))) where
-  go : Answers content (Some asked) before after ticks ticks_now status → IsComplete content asked before after status
-  go (inr none) = inr none
-  go (inl is) = inl record {
-    input = sound.0;
-    steps = sound.1;
-    text = is.text;
-    answer = subst (λ (r : Result (ending_of content asked).Input Refusal). EndsWith (ending_of content asked).Is r is.text status) sound.1 is.answer;
-    written = is.written;
-  }
+      go : Answers content (Some asked) before after ticks ticks_now status → IsComplete content asked before after status
+      go (inr none) = inr none
+      go (inl is) = inl record {
+        input = sound.0;
+        steps = sound.1;
+        text = is.text;
+        answer = subst (λ (r : Result (ending_of content asked).Input Refusal). EndsWith (ending_of content asked).Is r is.text status) sound.1 is.answer;
+        written = is.written;
+      }
 
 -- ---- the desk
 

@@ -177,19 +177,18 @@ pub some_served : (content : Option Content) (serving : Serving) (users : List U
     (record { tables = tables; shown = shown; door = door; file_faults = files; keeper_faults = keeper; door_faults = gate })
     (record { tables = tables_now; shown = shown_now; door = door_now; file_faults = files; keeper_faults = keeper_now; door_faults = gate_now })
     (Err DoorFault)
-some_served content serving users s now tables tables_mid tables_now shown shown_mid shown_now door door_now files keeper keeper_mid keeper_now gate gate_now failed read start same stays (inl is) =
-    (
-      inl (record {
-        users = λ c e. (users, read c e);
-        valid = λ rows e. ap first_bad_row (subst (λ (o : Option Rows). Agrees o s.tables) e start.1) ∙ start.2;
-        shown = stays ∙ start.3;
-        tables = is.0 ∙ same;
-        keeper = is.1 ∙ start.4;
-        told = is.2;
-        rose = is.3;
-      }),
-      refl,
-    )
+some_served content serving users s now tables tables_mid tables_now shown shown_mid shown_now door door_now files keeper keeper_mid keeper_now gate gate_now failed read start same stays (inl is) = (
+  inl (record {
+    users = λ c e. (users, read c e);
+    valid = λ rows e. ap first_bad_row (subst (λ (o : Option Rows). Agrees o s.tables) e start.1) ∙ start.2;
+    shown = stays ∙ start.3;
+    tables = is.0 ∙ same;
+    keeper = is.1 ∙ start.4;
+    told = is.2;
+    rose = is.3;
+  }),
+  refl,
+)
 some_served content serving users s now tables tables_mid tables_now shown shown_mid shown_now door door_now files keeper keeper_mid keeper_now gate gate_now failed read start same stays (inr is) = (
   inr (
     record { state = s; keeper = keeper_mid; door = gate },
