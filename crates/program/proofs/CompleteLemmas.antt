@@ -91,8 +91,11 @@ answers_all content serving rows a b faults faults_now tables sound calm (first,
 }
 
 -- valid input is not refused
+no_row : (found : Option (ℕ × ℕ)) (row : ℕ × ℕ) → found ≡ None → found ≡ Some row → ⊥
+no_row found row none some = let e : None ≡ Some row = sym none ∙ some in absurd (cc)
+
 no_bad_row : (rows : Rows) (refusal : Refusal) → first_bad_row rows ≡ None → IsBadRow (Some rows) refusal → ⊥
-no_bad_row rows (Cause.BadRow table row) valid bad = let e : None ≡ Some (table, row) = sym valid ∙ bad in absurd (cc)
+no_bad_row rows (Cause.BadRow table row) valid bad = no_row (first_bad_row rows) (table, row) valid bad
 no_bad_row rows (Cause.NoPath path) valid bad = bad
 no_bad_row rows (Cause.Bundle side files refusal) valid bad = bad
 no_bad_row rows (Cause.CasesLimit side cases) valid bad = bad
@@ -142,14 +145,6 @@ desk_completes content c asked serving asks rows a b faults faults_now before gi
     (subst (λ (o : Option Content). RunsDesk o asked a b faults faults_now given given_now status) told runs))
 
 -- without memory for the words nothing was done
-pub nothing_complete : (content : Content) (asked : Asked) (before : List ℕ) (given : Option (List ℕ)) → given ≡ Some before → IsComplete content asked before given 8
-nothing_complete content asked before given is = inr (record { status_is = refl; written = is })
-
-pub nothing_served : (content : Content) (serving : Serving) (rows : Rows) (tables : Option Rows) (shown : Option (List ℕ)) (door : Option Told) (files keeper gate : ℕ) (before : List ℕ) (given : Option (List ℕ))
-    → given ≡ Some before
-    → CompletesDesk content serving rows
-    (record { tables = tables; shown = shown; door = door; file_faults = files; keeper_faults = keeper; door_faults = gate })
-    (record { tables = tables; shown = shown; door = door; file_faults = files; keeper_faults = keeper; door_faults = gate })
-    before given 8
-nothing_served content serving rows tables shown door files keeper gate before given is =
-    inr (inr (record { tables = refl; door = refl; door_faults = refl }), record { status_is = refl; written = is })
+pub nothing_run : (content : Option Content) (serving : Serving) (a : Around) (faults : ℕ) (given : Option (List ℕ)) (status : ℕ) → status ≡ 8 → RunsDesk content serving a a faults faults given given status
+nothing_run content serving a faults given status eight =
+    (Err NoMemory, (record { tables = refl; door = refl; door_faults = refl }, refl, refl), record { ends = eight; still = refl; told = refl })
